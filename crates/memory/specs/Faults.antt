@@ -1,0 +1,13 @@
+-- The number and the address of each refusal of a store. Assumes nothing.
+use Prim.Native.Nat.{ℕ}
+use Rattle.quantity.specs.declared.Address.{Address}
+use Rattle.memory.specs.declared.fault.StoreFault.{StoreFault}
+use Rattle.memory.specs.declared.fault.StoreFault.the-variants.{Absent, Fixed}
+
+abbrev pub number-of : StoreFault → ℕ
+number-of (Absent a) = 10
+number-of (Fixed a) = 11
+
+abbrev pub address-of : StoreFault → Address
+address-of (Absent a) = a
+address-of (Fixed a) = a
