@@ -1,9 +1,16 @@
 -- An operation is told by its byte. Assumes nothing.
+use mathlib.Core.List.{List, [], _∷_, map}
+use mathlib.Core.Logic.{inl, inr}
 use mathlib.Core.Path.{_≡_, _∙_, ap, refl, sym}
+use native.Mathlib.Omega.{arith}
+use Prim.Native.Nat.{ℕ}
+use lib.Dec.{eqb}
+use Rattle.std.proofs.shelf.Tests.{cases-bool, cond-false, cond-true, eqb-true}
+use Rattle.std.specs.declared.option.Option.{Option}
 use Rattle.std.specs.declared.option.Option.the-variants.{Some}
 use Rattle.cisca.specs.declared.operation.Operation.{Operation}
 use Rattle.cisca.specs.declared.operation.Operation.the-variants as op
-use Rattle.cisca.specs.Table.{code, operation-of}
+use Rattle.cisca.specs.Table.{code, operation-of, operations, row-of, row-of-code}
 
 -- each byte of the table finds its own row
 pub code-finds : (o : Operation) → operation-of (code o) ≡ Some o
@@ -46,3 +53,54 @@ pub code-tells : (x y : Operation) → code x ≡ code y → x ≡ y
 code-tells x y e =
     let both : Some x ≡ Some y = sym (code-finds x) ∙ ap operation-of e ∙ code-finds y in
     cc
+
+un-some : {X : Type 0} {x y : X} → _≡_ {A = Option X} (Some x) (Some y) → x ≡ y
+un-some e = cc
+
+row-operation : (o : Operation) → row-of o .operation ≡ o
+row-operation op.Nop = refl
+row-operation op.Sti = refl
+row-operation op.Cli = refl
+row-operation op.Mov = refl
+row-operation op.Push = refl
+row-operation op.Pop = refl
+row-operation op.Add = refl
+row-operation op.Sub = refl
+row-operation op.Mul = refl
+row-operation op.Div = refl
+row-operation op.Inc = refl
+row-operation op.Dec = refl
+row-operation op.Cmp = refl
+row-operation op.Neg = refl
+row-operation op.And = refl
+row-operation op.Or = refl
+row-operation op.Xor = refl
+row-operation op.Test = refl
+row-operation op.Not = refl
+row-operation op.Sal = refl
+row-operation op.Sar = refl
+row-operation op.Jmp = refl
+row-operation op.Je = refl
+row-operation op.Jne = refl
+row-operation op.Jl = refl
+row-operation op.Jle = refl
+row-operation op.Jg = refl
+row-operation op.Jge = refl
+row-operation op.Call = refl
+row-operation op.Ret = refl
+row-operation op.Int = refl
+row-operation op.Iret = refl
+row-operation op.In = refl
+row-operation op.Out = refl
+
+found-among : (os : List Operation) (b : ℕ) (o : Operation) → row-of-code (map row-of os) b ≡ Some o → code o ≡ b
+found-among [] b o e = let z : _≡_ {A = ℕ} 0 1 = cc in absurd (omega arith)
+found-among (x ∷ os) b o e = elim (cases-bool (eqb (code x) b)) [
+    inl t ↦
+      let same : row-of x .operation ≡ o = un-some (sym (cond-true _ _ _ t) ∙ e) in
+      ap code (sym same ∙ row-operation x) ∙ eqb-true (code x) b t
+  | inr t ↦ found-among os b o (sym (cond-false _ _ _ t) ∙ e) ]
+
+-- the operation that a byte finds has it
+pub code-found : (b : ℕ) (o : Operation) → operation-of b ≡ Some o → code o ≡ b
+code-found b o e = found-among operations b o e

@@ -1,3 +1,4 @@
 pub mod Codes
 pub mod Finds
+pub mod Modes
 pub mod Same

@@ -1,12 +1,13 @@
 -- Records with facts in them are equal where their fields are. Assumes nothing.
 use mathlib.Core.HLevel.{isProp→PathP}
-use mathlib.Core.Path.{_≡_}
-use Prim.Native.Nat.{ℕ, _%_}
+use mathlib.Core.Bool.{Bool, false, true}
+use mathlib.Core.Path.{_≡_, refl, subst, sym}
+
 use lib.Dec.{T, T-prop, ltb}
 use Rattle.cisca.specs.declared.instruction.Instruction.{Instruction}
 use Rattle.cisca.specs.declared.register.Register.{Register}
 use Rattle.cisca.specs.Legality.{pairing}
-use Rattle.cisca.specs.Making.{parts}
+use Rattle.cisca.specs.Making.{Parts, parts}
 use Rattle.cisca.specs.Widths.{all-within}
 
 pub same-register : (r s : Register) → r .index ≡ s .index → r ≡ s
@@ -22,3 +23,19 @@ same-instruction x y e = λ i. record {
   narrow = isProp→PathP (λ i. T (all-within (e i .first))) (λ i. T-prop (all-within (e i .first))) (x .narrow) (y .narrow) i;
   slim = isProp→PathP (λ i. T (all-within (e i .second))) (λ i. T-prop (all-within (e i .second))) (x .slim) (y .slim) i;
 }
+
+test-true : (b : Bool) → T b → b ≡ true
+test-true true t = refl
+test-true false t = absurd t
+
+-- parts that go together, and whose quantities fit
+abbrev pub Legal : Parts → Type 0
+Legal x = (pairing (x .operation) (x .first) (x .second) ≡ true) × T (all-within (x .first)) × T (all-within (x .second))
+
+-- they are the parts of a record
+pub record-of : (x : Parts) → Legal x → (i : Instruction) × (parts i ≡ x)
+record-of x l = (record { operation = x .operation; first = x .first; second = x .second; legal = subst T (sym (l .0)) tt; narrow = l .1; slim = l .2 }, refl)
+
+-- and a record's parts are such
+pub record-legal : (i : Instruction) → Legal (parts i)
+record-legal i = (test-true (pairing (i .operation) (i .first) (i .second)) (i .legal), i .narrow, i .slim)

@@ -1,0 +1,5 @@
+pub mod Decoding
+pub mod Encoding
+pub mod Faults
+pub mod Laws
+pub mod Sources

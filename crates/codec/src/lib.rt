@@ -1,0 +1,5 @@
+// Instructions as bytes: one reader for byte strings and for any readable memory, and the writer.
+pub mod fault;
+pub mod source;
+
+mod decode;
