@@ -8,17 +8,18 @@ use lib.ListN.{length, length-append}
 use Rattle.std.specs.declared.option.Option.the-variants.{None}
 use Rattle.std.specs.declared.result.Result.{Result}
 use Rattle.std.specs.declared.result.Result.the-variants.{Err, Ok}
-use Rattle.cisca.proofs.Same.{Legal, record-legal, record-of}
+use Rattle.cisca.proofs.Same.{Legal, record-legal, record-of, same-instruction}
 use Rattle.cisca.specs.Making.{Parts, parts}
 use Rattle.cisca.specs.declared.instruction.Instruction.{Instruction}
-use Rattle.codec.specs.Decoding.{decode}
+use Rattle.codec.specs.Decoding.{Read, decode}
 use Rattle.codec.specs.Encoding.{bytes, part-bytes}
-use Rattle.codec.specs.Laws.{Barred, First-fault, Lies, Stops}
+use Rattle.codec.specs.Laws.{Barred, First-fault, Lies, Reads-back, Stops, Stops-at-first-fault, Writes-back}
+use Rattle.codec.specs.Readers.{answer, answer-of, place-after, place-of, read}
 use Rattle.codec.specs.Sources.{Bytes, Small}
 use Rattle.codec.specs.declared.fault.ReadCause.{ReadCause}
 use Rattle.codec.specs.declared.fault.ReadCause.the-variants.{Digit, Missing, Pairing, UnknownMode, UnknownOperation}
 use Rattle.codec.specs.declared.fault.ReadFault.{ReadFault}
-use Rattle.codec.proofs.Exact.{Bars, not-both}
+use Rattle.codec.proofs.Exact.{Bars, not-both, un-ok}
 use Rattle.codec.proofs.Instructions.{decode-exact}
 use Rattle.codec.proofs.Prefixes.{past, past-is}
 
@@ -70,3 +71,30 @@ first-fault s p f w e =
       begun = (i .0, (b .0, b .1 ∙ sym same), subst (λ (bs : List ℕ). length (r .before) < length bs) (sym same) (shorter s p f x (r .before) (b .0) (r .begun .1) (r .lies) e (b .1)));
       stops = stops s (r .before) (f .place .offset) (f .cause) (r .halts);
     }
+
+-- The same of a reader's answer.
+
+answered-ok : (d : Read Parts) (p : ℕ) (x : Parts) → Ok x ≡ answer-of d → d ≡ Ok (x, place-of p d)
+answered-ok (Ok y) p x e = let h : x ≡ y .0 = cc in ap (λ (z : Parts). Ok (z, y .1)) (sym h)
+answered-ok (Err f) p x e = absurd (not-both (sym e))
+
+answered-err : (d : Read Parts) (f : ReadFault) → Err f ≡ answer-of d → d ≡ Err f
+answered-err (Ok y) f e = absurd (not-both e)
+answered-err (Err h) f e = sym (let k : f ≡ h = cc in ap Err k)
+
+pub reads-back-next : (s : Bytes) (p : ℕ) (r : Result Instruction ReadFault) → read r ≡ answer s p → Reads-back s p r
+reads-back-next s p (Ok j) e i h =
+    let k : Ok (parts j) ≡ Ok (parts i) = e ∙ ap answer-of (reads-back i s p h) in
+    let same : parts j ≡ parts i = un-ok k in
+    ap Ok (same-instruction j i same)
+reads-back-next s p (Err f) e i h = absurd (not-both (e ∙ ap answer-of (reads-back i s p h)))
+
+pub writes-back-next : (s : Bytes) (p q : ℕ) (r : Result Instruction ReadFault) → Small s → read r ≡ answer s p → q ≡ place-after s p → Writes-back s p q r
+writes-back-next s p q (Ok i) w e m =
+    let h = writes-back s p (parts i) (place-of p (decode s p)) w (answered-ok (decode s p) p (parts i) e) in
+    (h .0, m ∙ h .1)
+writes-back-next s p q (Err f) w e m = tt
+
+pub first-fault-next : (s : Bytes) (p : ℕ) (r : Result Instruction ReadFault) → Small s → read r ≡ answer s p → Stops-at-first-fault s p r
+first-fault-next s p (Ok i) w e = tt
+first-fault-next s p (Err f) w e = first-fault s p f w (answered-err (decode s p) f e)

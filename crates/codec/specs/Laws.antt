@@ -6,9 +6,11 @@ use lib.ListN.{length}
 use Rattle.std.specs.declared.option.Option.the-variants.{None, Some}
 use Rattle.std.specs.declared.result.Result.{Result}
 use Rattle.std.specs.declared.result.Result.the-variants.{Err, Ok}
+use Rattle.cisca.specs.Making.{parts}
 use Rattle.cisca.specs.declared.instruction.Instruction.{Instruction}
+use Rattle.codec.specs.Decoding.{decode}
 use Rattle.codec.specs.Encoding.{bytes}
-use Rattle.codec.specs.Sources.{Bytes}
+use Rattle.codec.specs.Sources.{Bytes, listed}
 use Rattle.codec.specs.declared.fault.ReadCause.{ReadCause}
 use Rattle.codec.specs.declared.fault.ReadCause.the-variants.{Digit, Missing, Pairing, UnknownMode, UnknownOperation}
 use Rattle.codec.specs.declared.fault.ReadFault.{ReadFault}
@@ -43,11 +45,19 @@ pub record First-fault (s : Bytes) (p : ℕ) (f : ReadFault) : Type 0 where
   pub begun : (i : Instruction) × Begins before (bytes i) × (length before < length (bytes i))
   pub stops : Stops s before (f .cause) (f .place .offset)
 
--- accepted bytes are those that the record is written as
-abbrev pub Writes-back : Bytes → ℕ → Result Instruction ReadFault → Type 0
-Writes-back s p (Ok i) = Lies s p (bytes i)
-Writes-back s p (Err f) = Unit {0}
+-- a record whose bytes lie at the place, whatever follows, is read
+abbrev pub Reads-back : Bytes → ℕ → Result Instruction ReadFault → Type 0
+Reads-back s p r = (i : Instruction) → Lies s p (bytes i) → r ≡ Ok i
+
+-- accepted bytes, up to the place q, are those that the record is written as
+abbrev pub Writes-back : Bytes → ℕ → ℕ → Result Instruction ReadFault → Type 0
+Writes-back s p q (Ok i) = Lies s p (bytes i) × (q ≡ p + length (bytes i))
+Writes-back s p q (Err f) = Unit {0}
 
 abbrev pub Stops-at-first-fault : Bytes → ℕ → Result Instruction ReadFault → Type 0
 Stops-at-first-fault s p (Ok i) = Unit {0}
 Stops-at-first-fault s p (Err f) = First-fault s p f
+
+-- what is written of a record reads as the record and its length, whatever follows
+abbrev pub Read-from-front : Instruction → Type 0
+Read-from-front i = (t : List ℕ) → decode (listed (bytes i ++ t)) 0 ≡ Ok (parts i, length (bytes i))

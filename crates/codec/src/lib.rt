@@ -1,5 +1,6 @@
 // Instructions as bytes: one reader for byte strings and for any readable memory, and the writer.
 pub mod fault;
+pub mod reader;
 pub mod source;
 
 mod decode;
