@@ -3,8 +3,8 @@ use mathlib.Core.List.{List, [], _∷_, map}
 use mathlib.Core.Logic.{inl, inr}
 use mathlib.Core.Path.{_≡_, _∙_, ap, refl, sym}
 use native.Mathlib.Omega.{arith}
-use Prim.Native.Nat.{ℕ}
-use lib.Dec.{eqb}
+use Prim.Native.Nat.{ℕ, _<_}
+use lib.Dec.{eqb, lit<}
 use Rattle.std.proofs.shelf.Tests.{cases-bool, cond-false, cond-true, eqb-true}
 use Rattle.std.specs.declared.option.Option.{Option}
 use Rattle.std.specs.declared.option.Option.the-variants.{Some}
@@ -104,3 +104,40 @@ found-among (x ∷ os) b o e = elim (cases-bool (eqb (code x) b)) [
 -- the operation that a byte finds has it
 pub code-found : (b : ℕ) (o : Operation) → operation-of b ≡ Some o → code o ≡ b
 code-found b o e = found-among operations b o e
+
+-- an operation's byte is below 256
+pub code-small : (o : Operation) → code o < 256
+code-small op.Nop = lit< tt
+code-small op.Sti = lit< tt
+code-small op.Cli = lit< tt
+code-small op.Mov = lit< tt
+code-small op.Push = lit< tt
+code-small op.Pop = lit< tt
+code-small op.Add = lit< tt
+code-small op.Sub = lit< tt
+code-small op.Mul = lit< tt
+code-small op.Div = lit< tt
+code-small op.Inc = lit< tt
+code-small op.Dec = lit< tt
+code-small op.Cmp = lit< tt
+code-small op.Neg = lit< tt
+code-small op.And = lit< tt
+code-small op.Or = lit< tt
+code-small op.Xor = lit< tt
+code-small op.Test = lit< tt
+code-small op.Not = lit< tt
+code-small op.Sal = lit< tt
+code-small op.Sar = lit< tt
+code-small op.Jmp = lit< tt
+code-small op.Je = lit< tt
+code-small op.Jne = lit< tt
+code-small op.Jl = lit< tt
+code-small op.Jle = lit< tt
+code-small op.Jg = lit< tt
+code-small op.Jge = lit< tt
+code-small op.Call = lit< tt
+code-small op.Ret = lit< tt
+code-small op.Int = lit< tt
+code-small op.Iret = lit< tt
+code-small op.In = lit< tt
+code-small op.Out = lit< tt

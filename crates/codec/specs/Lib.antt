@@ -4,3 +4,4 @@ pub mod Faults
 pub mod Laws
 pub mod Readers
 pub mod Sources
+pub mod Writing

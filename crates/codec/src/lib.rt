@@ -2,5 +2,6 @@
 pub mod fault;
 pub mod reader;
 pub mod source;
+pub mod writer;
 
 mod decode;
