@@ -82,6 +82,13 @@ answered-err : (d : Read Parts) (f : ReadFault) → Err f ≡ answer-of d → d 
 answered-err (Ok y) f e = absurd (not-both e)
 answered-err (Err h) f e = sym (let k : f ≡ h = cc in ap Err k)
 
+-- what an accepted or a refused answer says of the reading
+pub next-ok : (s : Bytes) (p q : ℕ) (i : Instruction) → read (Ok i) ≡ answer s p → q ≡ place-after s p → decode s p ≡ Ok (parts i, q)
+next-ok s p q i e m = answered-ok (decode s p) p (parts i) e ∙ ap (λ (q : ℕ). Ok (parts i, q)) (sym m)
+
+pub next-err : (s : Bytes) (p : ℕ) (f : ReadFault) → read (Err f) ≡ answer s p → decode s p ≡ Err f
+next-err s p f e = answered-err (decode s p) f e
+
 pub reads-back-next : (s : Bytes) (p : ℕ) (r : Result Instruction ReadFault) → read r ≡ answer s p → Reads-back s p r
 reads-back-next s p (Ok j) e i h =
     let k : Ok (parts j) ≡ Ok (parts i) = e ∙ ap answer-of (reads-back i s p h) in
@@ -91,10 +98,9 @@ reads-back-next s p (Err f) e i h = absurd (not-both (e ∙ ap answer-of (reads-
 
 pub writes-back-next : (s : Bytes) (p q : ℕ) (r : Result Instruction ReadFault) → Small s → read r ≡ answer s p → q ≡ place-after s p → Writes-back s p q r
 writes-back-next s p q (Ok i) w e m =
-    let h = writes-back s p (parts i) (place-of p (decode s p)) w (answered-ok (decode s p) p (parts i) e) in
-    (h .0, m ∙ h .1)
+    writes-back s p (parts i) q w (next-ok s p q i e m)
 writes-back-next s p q (Err f) w e m = tt
 
 pub first-fault-next : (s : Bytes) (p : ℕ) (r : Result Instruction ReadFault) → Small s → read r ≡ answer s p → Stops-at-first-fault s p r
 first-fault-next s p (Ok i) w e = tt
-first-fault-next s p (Err f) w e = first-fault s p f w (answered-err (decode s p) f e)
+first-fault-next s p (Err f) w e = first-fault s p f w (next-err s p f e)

@@ -25,7 +25,7 @@ impl Drop for PlaceGuard<'_> {
 }
 
 // The instruction at the place, which moves behind it; a refusal does not move it.
-fn read_next<S: Source>(source: &S, place: &mut Place) -> Result<Instruction, ReadFault>
+pub fn read_next<S: Source>(source: &S, place: &mut Place) -> Result<Instruction, ReadFault>
     ensures answers { λ r. ⌜ read r ≡ answer (S·Source .shows (now (source .entry))) (now (place .entry) .offset) ⌝ }
     ensures moves { λ _. ⌜ now (place .exit) .offset ≡ place-after (S·Source .shows (now (source .entry))) (now (place .entry) .offset) ⌝ }
 {

@@ -1,0 +1,3 @@
+// Whole programs: any list of records, whose bytes stand one behind the other.
+pub mod fault;
+pub mod read;
