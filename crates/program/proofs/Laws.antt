@@ -1,5 +1,5 @@
 -- The laws of whole programs. Assumes nothing.
-use mathlib.Core.List.{List, [], _∷_, _++_, map}
+use mathlib.Core.List.{List, [], _∷_, _++_, append-nil, map}
 use mathlib.Core.Logic.{_⊎_, inl, inr}
 use mathlib.Core.Path.{_≡_, _∙_, ap, refl, subst, sym}
 use native.Mathlib.Omega.{arith}
@@ -12,15 +12,16 @@ use Rattle.cisca.proofs.Same.{record-of}
 use Rattle.cisca.specs.Making.{Parts, parts}
 use Rattle.cisca.specs.declared.instruction.Instruction.{Instruction}
 use Rattle.codec.proofs.Exact.{not-both, un-err, un-ok}
+use Rattle.codec.proofs.Fronts.{All-small, bytes-small, lies-listed, small-append}
 use Rattle.codec.proofs.Instructions.{decode-exact}
 use Rattle.codec.proofs.Laws.{first-fault, reads-back}
 use Rattle.codec.proofs.Prefixes.{lies-join, lies-split, past, past-append, past-is}
 use Rattle.codec.specs.Decoding.{Read, decode}
 use Rattle.codec.specs.Encoding.{bytes, part-bytes}
 use Rattle.codec.specs.Laws.{First-fault, Lies}
-use Rattle.codec.specs.Sources.{Bytes, Ends-by, Small}
+use Rattle.codec.specs.Sources.{Bytes, Ends-by, Small, listed, listed-ends}
 use Rattle.codec.specs.declared.fault.ReadFault.{ReadFault}
-use Rattle.program.specs.Laws.{Program-reads-back, Program-stops-at-first-fault, Program-writes-back}
+use Rattle.program.specs.Laws.{Program-read-whole, Program-reads-back, Program-stops-at-first-fault, Program-writes-back}
 use Rattle.program.specs.Programs.{Records, behind, onto, program-bytes, read-from}
 use Rattle.program.proofs.Reading.{before-end, read-end, read-on}
 
@@ -140,3 +141,15 @@ module _ (s : Bytes) (end : ℕ) (w : Ends-by s end) where
   program-stops small f e =
       let b = refused small end 0 f e in
       (b .0, b .1, subst (λ (t : ℕ). First-fault s t f) (at-start (program-bytes (b .0))) (b .2))
+
+-- The bytes of a program, all by themselves.
+
+programs-small : (is : List Instruction) → All-small (program-bytes is)
+programs-small [] = tt
+programs-small (i ∷ is) = small-append (bytes i) (program-bytes is) (bytes-small i) (programs-small is)
+
+pub program-read-whole : (is : List Instruction) → Program-read-whole is
+program-read-whole is =
+    let bs = program-bytes is in
+    let lies : Lies (listed bs) 0 bs = subst (λ (l : List ℕ). Lies (listed l) 0 bs) (append-nil bs) (lies-listed [] bs [] 0 refl (programs-small is)) in
+    program-reads-back (listed bs) (length bs) (listed-ends bs) is (lies, listed-ends bs (length bs) (omega arith))

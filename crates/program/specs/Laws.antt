@@ -8,7 +8,7 @@ use Rattle.std.specs.declared.result.Result.the-variants.{Err, Ok}
 use Rattle.cisca.specs.Making.{Parts, parts}
 use Rattle.cisca.specs.declared.instruction.Instruction.{Instruction}
 use Rattle.codec.specs.Laws.{Begins, First-fault, Lies}
-use Rattle.codec.specs.Sources.{Bytes}
+use Rattle.codec.specs.Sources.{Bytes, listed}
 use Rattle.codec.specs.declared.fault.ReadFault.{ReadFault}
 use Rattle.program.specs.Programs.{program-bytes, whole}
 
@@ -31,3 +31,7 @@ Program-stops-at-first-fault s n = (f : ReadFault) → whole s n ≡ Err f → (
 -- the bytes of one program begin those of another exactly where its list begins the other's
 abbrev pub One-reading : List Instruction → List Instruction → Type 0
 One-reading p q = (Begins p q → Begins (program-bytes p) (program-bytes q)) × (Begins (program-bytes p) (program-bytes q) → Begins p q)
+
+-- the bytes of a program, all by themselves, read as its list
+abbrev pub Program-read-whole : List Instruction → Type 0
+Program-read-whole is = whole (listed (program-bytes is)) (length (program-bytes is)) ≡ Ok (map parts is)

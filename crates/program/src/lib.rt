@@ -1,3 +1,4 @@
 // Whole programs: any list of records, whose bytes stand one behind the other.
 pub mod fault;
 pub mod read;
+pub mod write;

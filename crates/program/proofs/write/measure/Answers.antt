@@ -1,0 +1,16 @@
+use mathlib.Core.Path.{sym}
+use Rattle.program.proofs.Writing.{measuring-all, measuring-more, measuring-short}
+use Rattle.program.proofs.write.measure.Needs as need
+
+pub returns-then-room-total : need.returns-then-room-total
+returns-then-room-total c =
+    measuring-short (c .args .program .now) (c .args .room) (c .loop-instruction .instruction-index) (c .loop-instruction .total) (c .encoded-length-size .result) (c .instruction-item .result)
+    (c .loop-instruction .inv) (c .loop-instruction-test .taken) (sym (c .instruction-item .is)) (c .encoded-length-size .ensures .value) (c .if-room-total .taken)
+
+pub loop-instruction-again : need.loop-instruction-again
+loop-instruction-again c =
+    measuring-more (c .args .program .now) (c .args .room) (c .loop-instruction .instruction-index) (c .loop-instruction .total) (c .encoded-length-size .result) (c .instruction-item .result)
+    (c .loop-instruction .inv) (c .loop-instruction-test .taken) (sym (c .instruction-item .is)) (c .encoded-length-size .ensures .value) (c .if-room-total .left)
+
+pub returns : need.returns
+returns c = measuring-all (c .args .program .now) (c .args .room) (c .loop-instruction .instruction-index) (c .loop-instruction .total) (c .loop-instruction .inv) (c .loop-instruction-test .left)
