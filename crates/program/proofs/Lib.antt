@@ -1,3 +1,4 @@
+pub mod Comparing
 pub mod Filling
 pub mod Laws
 pub mod Reading
