@@ -96,10 +96,11 @@ row-operation op.Out = refl
 found-among : (os : List Operation) (b : ℕ) (o : Operation) → row-of-code (map row-of os) b ≡ Some o → code o ≡ b
 found-among [] b o e = let z : _≡_ {A = ℕ} 0 1 = cc in absurd (omega arith)
 found-among (x ∷ os) b o e = elim (cases-bool (eqb (code x) b)) [
-    inl t ↦
+  | inl t ↦
       let same : row-of x .operation ≡ o = un-some (sym (cond-true _ _ _ t) ∙ e) in
       ap code (sym same ∙ row-operation x) ∙ eqb-true (code x) b t
-  | inr t ↦ found-among os b o (sym (cond-false _ _ _ t) ∙ e) ]
+  | inr t ↦ found-among os b o (sym (cond-false _ _ _ t) ∙ e)
+]
 
 -- the operation that a byte finds has it
 pub code-found : (b : ℕ) (o : Operation) → operation-of b ≡ Some o → code o ≡ b

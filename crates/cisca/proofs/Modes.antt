@@ -28,8 +28,9 @@ un-some e = cc
 found-among : (xs : List Mode) (n : ℕ) (y : Mode) → mode-among xs n ≡ Some y → mode-number y ≡ n
 found-among [] n y e = let z : _≡_ {A = ℕ} 0 1 = cc in absurd (omega arith)
 found-among (x ∷ xs) n y e = elim (cases-bool (eqb (mode-number x) n)) [
-    inl t ↦ ap mode-number (sym (un-some (sym (cond-true _ _ _ t) ∙ e))) ∙ eqb-true (mode-number x) n t
-  | inr t ↦ found-among xs n y (sym (cond-false _ _ _ t) ∙ e) ]
+  | inl t ↦ ap mode-number (sym (un-some (sym (cond-true _ _ _ t) ∙ e))) ∙ eqb-true (mode-number x) n t
+  | inr t ↦ found-among xs n y (sym (cond-false _ _ _ t) ∙ e)
+]
 
 -- the mode that a number finds has it
 pub mode-found : (n : ℕ) (y : Mode) → mode-of n ≡ Some y → mode-number y ≡ n

@@ -2,7 +2,6 @@
 use mathlib.Core.HLevel.{isProp→PathP}
 use mathlib.Core.Bool.{Bool, false, true}
 use mathlib.Core.Path.{_≡_, refl, subst, sym}
-
 use lib.Dec.{T, T-prop, ltb}
 use Rattle.cisca.specs.declared.instruction.Instruction.{Instruction}
 use Rattle.cisca.specs.declared.register.Register.{Register}

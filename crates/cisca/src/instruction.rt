@@ -3,17 +3,15 @@ ghost use lib.Dec.{T};
 ghost use Rattle.cisca.specs.Legality.{pairing};
 ghost use Rattle.cisca.specs.Widths.{all-within};
 use crate::operand::Operand;
-use crate::operand::OperandDebug;
 use crate::operand::OperandPartialEq;
 use crate::operation::Operation;
-use crate::operation::OperationDebug;
 use crate::operation::OperationPartialEq;
 
 pub mod making;
 
 // An operation with its operands. Only legal pairings have a record, so that nothing that is given
 // one has to test it again.
-#[derive(Clone, Copy, PartialEq, Eq, Debug)]
+#[derive(Clone, Copy, PartialEq, Eq)]
 pub struct Instruction {
     operation: Operation,
     first: Option<Operand>,

@@ -2,20 +2,16 @@
 ghost use mathlib.Core.Path.{_≡_};
 ghost use Rattle.cisca.specs.Modes.{immediate, memory, mode, mode-number, mode-of, pc-relative, register, unregistered};
 use crate::register::Register;
-use crate::register::RegisterDebug;
 use crate::register::RegisterPartialEq;
 use quantity::Address;
-use quantity::AddressDebug;
 use quantity::AddressPartialEq;
 use quantity::Displacement;
-use quantity::DisplacementDebug;
 use quantity::DisplacementPartialEq;
 use quantity::Number;
-use quantity::NumberDebug;
 use quantity::NumberPartialEq;
 
 // What an instruction works on.
-#[derive(Clone, Copy, PartialEq, Eq, Debug)]
+#[derive(Clone, Copy, PartialEq, Eq)]
 pub enum Operand {
     // The word itself.
     Immediate(Number),

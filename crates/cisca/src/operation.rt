@@ -4,7 +4,7 @@ ghost use Rattle.std.specs.Orderings.{Decides};
 ghost use Rattle.cisca.specs.Table.{code, group, letters, operation-of, row-of-code};
 use crate::group::Group;
 
-#[derive(Clone, Copy, Eq, Debug)]
+#[derive(Clone, Copy, Eq)]
 pub enum Operation {
     Nop,
     Sti,

@@ -42,9 +42,10 @@ lies-listed pre (b ∷ bs) t p e h =
     let l = pre ++ (b ∷ (bs ++ t)) in
     let within : p < length l = omega (arith, length-append pre (b ∷ (bs ++ t))) in
     let value : getD l p 0 % 256 ≡ b = ap (λ (x : ℕ). x % 256) (getD-at pre b (bs ++ t) 0 p e) ∙ mod-eq-of-lt (h .0) in
-    let move : (pre ++ b ∷ []) ++ (bs ++ t) ≡ l = append-assoc pre (b ∷ []) (bs ++ t) in
-    ( cond-true _ _ _ (lt-ltb p (length l) within) ∙ ap Some value,
-      subst (λ (l : List ℕ). Lies (listed l) (p + 1) bs) move (lies-listed (pre ++ b ∷ []) bs t (p + 1) (length-push pre b ∙ ap (λ (n : ℕ). n + 1) e) (h .1)) )
+    let move : (pre ++ b ∷ []) ++ (bs ++ t) ≡ l = append-assoc pre (b ∷ []) (bs ++ t) in (
+      cond-true _ _ _ (lt-ltb p (length l) within) ∙ ap Some value,
+      subst (λ (l : List ℕ). Lies (listed l) (p + 1) bs) move (lies-listed (pre ++ b ∷ []) bs t (p + 1) (length-push pre b ∙ ap (λ (n : ℕ). n + 1) e) (h .1)),
+    )
 
 low : (n : ℕ) → n % 256 < 256
 low n = mod-below n 256 (omega arith)

@@ -27,7 +27,7 @@ halves : (n : ℕ) → four-bytes n ≡ two-bytes (n % 65536) ++ two-bytes (n / 
 halves n =
     let a : n % 256 ≡ n % 65536 % 256 = omega arith in
     let b : n / 256 % 256 ≡ n % 65536 / 256 % 256 =
-      sym (ap (λ (x : ℕ). x / 256 % 256) (mod-pow-add n 8 8) ∙ ap (λ (x : ℕ). x % 256) (div-mul-add (n / 256 % 256) 256 (n % 256) (omega arith)) ∙ omega arith) in
+    sym (ap (λ (x : ℕ). x / 256 % 256) (mod-pow-add n 8 8) ∙ ap (λ (x : ℕ). x % 256) (div-mul-add (n / 256 % 256) 256 (n % 256) (omega arith)) ∙ omega arith) in
     let d : n / 16777216 % 256 ≡ n / 65536 / 256 % 256 = ap (λ (x : ℕ). x % 256) (sym (shr-shr n 16 8)) in
     λ i. a i ∷ b i ∷ n / 65536 % 256 ∷ d i ∷ []
 

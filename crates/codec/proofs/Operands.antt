@@ -98,7 +98,7 @@ module _ (fits : Mode → Bool) where
   mode-blames b p f e =
       known-blames (mode-of (b / 16)) cause.UnknownMode p f _ (λ z. let q : _≡_ {A = ℕ} 0 1 = cc in omega arith)
       (λ m. provided-blames (fits m) cause.Pairing p f _ (λ z. let q : _≡_ {A = ℕ} 0 1 = cc in omega arith)
-        (provided-blames (clean m (b % 16)) cause.Digit p f _ (λ z. let q : _≡_ {A = ℕ} 0 1 = cc in omega arith) (λ z. absurd (not-both (sym z))))) e
+      (provided-blames (clean m (b % 16)) cause.Digit p f _ (λ z. let q : _≡_ {A = ℕ} 0 1 = cc in omega arith) (λ z. absurd (not-both (sym z))))) e
 
   mode-exact : (t : ModeByte) × Stands t → Exact (judged-at (judged-mode fits)) (λ t. mark t ∷ []) Stands
   mode-exact some = judged (judged-mode fits) mark Stands mode-means mode-meant mode-blames some

@@ -35,7 +35,7 @@ placed-front (x ∷ l) (b ∷ bs) h = placed-behind b l 0 bs ∙ ap (λ (m : Lis
 pub overlays : (l : List ℕ) (b : ℕ) (xs ys l₁ l₂ : List ℕ) (at : ℕ) → l₁ ≡ placed (set l 0 b) 1 xs → at ≡ 1 + length xs → l₂ ≡ placed l₁ at ys → length (b ∷ (xs ++ ys)) ≤ length l → l₂ ≡ overlaid (b ∷ (xs ++ ys)) l
 overlays l b xs ys l₁ l₂ at e f g room =
     let whole : l₂ ≡ placed l 0 (b ∷ (xs ++ ys)) =
-      g ∙ ap (λ (x : ℕ). placed l₁ x ys) f ∙ ap (λ (m : List ℕ). placed m (1 + length xs) ys) e ∙ sym (placed-append (set l 0 b) 1 xs ys) in
+    g ∙ ap (λ (x : ℕ). placed l₁ x ys) f ∙ ap (λ (m : List ℕ). placed m (1 + length xs) ys) e ∙ sym (placed-append (set l 0 b) 1 xs ys) in
     whole ∙ placed-front l (b ∷ (xs ++ ys)) room ∙ sym (cond-false _ _ _ (le-ltb (length l) (length (b ∷ (xs ++ ys))) room))
 
 -- what a buffer that is too short answers and holds

@@ -46,8 +46,9 @@ comparable (a ∷ xs) b (c ∷ ys) z w e =
     let h : a ≡ c = cc in
     let t : (xs ++ b ∷ []) ++ z ≡ ys ++ w = cc in
     elim (comparable xs b ys z w t) [
-      inl k ↦ inl (k .0, λ i. h i ∷ k .1 i)
-    | inr k ↦ inr (k .0, λ i. sym h i ∷ k .1 i) ]
+      | inl k ↦ inl (k .0, λ i. h i ∷ k .1 i)
+      | inr k ↦ inr (k .0, λ i. sym h i ∷ k .1 i)
+    ]
 
 -- a list as a source, whatever its numbers
 abbrev pub head : List ℕ → Option ℕ

@@ -30,7 +30,10 @@ struct ModeByte {
 fn fault(cause: ReadCause, offset: usize) -> ReadFault
     ensures { λ r. ⌜ r ≡ fault-at cause offset ⌝ }
 {
-    ReadFault { cause, place: Place { offset } }
+    ReadFault {
+        cause,
+        place: Place { offset },
+    }
 }
 
 fn byte<S: Source>(source: &S, at: usize) -> Result<(u8, usize), ReadFault>
@@ -92,7 +95,12 @@ fn is_clean(mode: Mode, digit: u8) -> bool
 }
 
 // A mode byte by its meaning: tested for an unknown mode, for the pairing, then for the digit.
-fn mode_byte_of(group: Group, before: Option<Mode>, byte: u8, at: usize) -> Result<ModeByte, ReadFault>
+fn mode_byte_of(
+    group: Group,
+    before: Option<Mode>,
+    byte: u8,
+    at: usize,
+) -> Result<ModeByte, ReadFault>
     ensures { λ r. ⌜ r ≡ judged-mode (fits-behind group before) byte at ⌝ }
 {
     let Some(mode) = Mode::from_number(byte / 16) else {
@@ -104,7 +112,10 @@ fn mode_byte_of(group: Group, before: Option<Mode>, byte: u8, at: usize) -> Resu
     if !is_clean(mode, byte % 16) {
         return Err(fault(ReadCause::Digit, at));
     }
-    Ok(ModeByte { mode, register: Register::new(byte) })
+    Ok(ModeByte {
+        mode,
+        register: Register::new(byte),
+    })
 }
 
 fn mode_byte<S: Source>(
@@ -141,7 +152,10 @@ fn valued<S: Source>(
         Mode::Indirect => Ok((Operand::Indirect(register), at)),
         Mode::Relative => {
             let (n, at) = two_bytes(source, at)?;
-            Ok((Operand::Relative(register, Displacement(n.cast_signed())), at))
+            Ok((
+                Operand::Relative(register, Displacement(n.cast_signed())),
+                at,
+            ))
         }
         Mode::Indexed => {
             let (n, at) = four_bytes(source, at)?;

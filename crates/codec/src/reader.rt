@@ -47,7 +47,10 @@ impl<S: Source> Reader<S> {
         ensures over { λ r. ⌜ r .source ≡ source ⌝ }
         ensures first { λ r. ⌜ r .place .offset ≡ 0 ⌝ }
     {
-        Reader { source, place: Place { offset: 0 } }
+        Reader {
+            source,
+            place: Place { offset: 0 },
+        }
     }
 
     // Where the next reading begins.
@@ -82,7 +85,10 @@ impl<S: Source> Reader<S> {
         ensures same { λ _. ⌜ now (self .exit) ≡ now (self .entry) ⌝ }
     {
         let saved = self.place;
-        let guard = PlaceGuard { place: &mut self.place, saved };
+        let guard = PlaceGuard {
+            place: &mut self.place,
+            saved,
+        };
         read_next(&self.source, guard.place)
     }
 }

@@ -46,14 +46,14 @@ bytes-short i = omega (arith, length-append (bytes-if (i .first)) (bytes-if (i .
 pub same-front : (x y : Instruction) (l : List ℕ) → Begins (bytes x) l → Begins (bytes y) l → x ≡ y
 same-front x y l b c =
     let both : _≡_ {A = Parts × ℕ} (parts x, 0 + length (bytes x)) (parts y, 0 + length (bytes y)) =
-      un-ok (sym (reads-back x (plain l) 0 (lies-front (bytes x) l b)) ∙ reads-back y (plain l) 0 (lies-front (bytes y) l c)) in
+    un-ok (sym (reads-back x (plain l) 0 (lies-front (bytes x) l b)) ∙ reads-back y (plain l) 0 (lies-front (bytes y) l c)) in
     same-instruction x y (ap (λ (t : Parts × ℕ). t .0) both)
 
 -- records are told by a buffer that they are written to
 pub same-written : (x y : Instruction) (old a b : List ℕ) → 11 ≤ length old → a ≡ overlaid (bytes x) old → b ≡ overlaid (bytes y) old → a ≡ b → x ≡ y
 same-written x y old a b room e f same =
     let fits : (i : Instruction) → overlaid (bytes i) old ≡ bytes i ++ drop (length (bytes i)) old =
-      λ i. cond-false _ _ _ (le-ltb (length old) (length (bytes i)) (let h = bytes-short i in omega arith)) in
+    λ i. cond-false _ _ _ (le-ltb (length old) (length (bytes i)) (let h = bytes-short i in omega arith)) in
     same-front x y a (drop (length (bytes x)) old, sym (e ∙ fits x)) (drop (length (bytes y)) old, sym (same ∙ f ∙ fits y))
 
 -- The bytes of programs.
@@ -87,9 +87,10 @@ module _ (xs ys : List Instruction) where
 
   -- nor does one that differs from it
   pub differs : (k : ℕ) (x y : Instruction) → k < length xs → length xs ≤ length ys → x ≡ getD xs k x → y ≡ getD ys k y → (x ≡ y → ⊥) → Decides false (Begins xs ys)
-  differs k x y h room e f ne =
-      ( false-true,
-        λ b. absurd (ne (e ∙ sym (front-reads x ys xs (b .0) (sym (b .1)) k h) ∙ getD-default ys k x y (omega arith) ∙ sym f)) )
+  differs k x y h room e f ne = (
+    false-true,
+    λ b. absurd (ne (e ∙ sym (front-reads x ys xs (b .0) (sym (b .1)) k h) ∙ getD-default ys k x y (omega arith) ∙ sym f)),
+  )
 
   pub same-more : (k : ℕ) (x y : Instruction) → k < length xs → length xs ≤ length ys → x ≡ getD xs k x → y ≡ getD ys k y → x ≡ y → take k xs ≡ take k ys → take (k + 1) xs ≡ take (k + 1) ys
   same-more k x y h room e f same t =

@@ -82,15 +82,15 @@ module _ (s : Bytes) (end : ℕ) (old new : List Instruction) (at k n : ℕ) (f 
         rest = a .2;
         count = length-push (f .done) i ∙ ap (λ (m : ℕ). m + 1) (f .count);
         so-far =
-          f .so-far
-          ∙ ap (λ (ys : List Parts). Ok (map parts (f .done) ++ ys)) (sym (a .5) ∙ ap (λ (x : Parts). x ∷ a .2) (sym same))
-          ∙ ap Ok (sym (append-assoc (map parts (f .done)) (parts i ∷ []) (a .2)) ∙ ap (λ (xs : List Parts). xs ++ a .2) (sym (map-push parts (f .done) i)));
+            f .so-far
+            ∙ ap (λ (ys : List Parts). Ok (map parts (f .done) ++ ys)) (sym (a .5) ∙ ap (λ (x : Parts). x ∷ a .2) (sym same))
+            ∙ ap Ok (sym (append-assoc (map parts (f .done)) (parts i ∷ []) (a .2)) ∙ ap (λ (xs : List Parts). xs ++ a .2) (sym (map-push parts (f .done) i)));
         left = ap (λ (m : ℕ). read-from m s q) (omega arith) ∙ ap (read-from (end - k - 1) s) (ap (λ (y : Parts × ℕ). y .1) both) ∙ a .4;
         total = let t = f .total in omega arith;
         holds =
-          ap (λ (l : List Instruction). set l k i) (f .holds ∙ ap (λ (l : List Instruction). f .done ++ l) (drop-more old k i within))
-          ∙ set-at (f .done) (getD old k i) (drop (k + 1) old) i k (f .count)
-          ∙ sym (append-assoc (f .done) (i ∷ []) (drop (k + 1) old));
+            ap (λ (l : List Instruction). set l k i) (f .holds ∙ ap (λ (l : List Instruction). f .done ++ l) (drop-more old k i within))
+            ∙ set-at (f .done) (getD old k i) (drop (k + 1) old) i k (f .count)
+            ∙ sym (append-assoc (f .done) (i ∷ []) (drop (k + 1) old));
       }
 
 -- What the list answers and holds.

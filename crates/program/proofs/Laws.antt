@@ -47,10 +47,12 @@ behind-err (Err g) k f e = inl (ap Err (un-err e))
 read-record : (s : Bytes) (p : ℕ) (x : Parts) (q : ℕ) → Small s → decode s p ≡ Ok (x, q) → (i : Instruction) × (parts i ≡ x) × Lies s p (bytes i) × (q ≡ past p (bytes i))
 read-record s p x q w e =
     let g = decode-exact .gave s p x q w e in
-    let i = record-of x (g .0) in
-    ( i .0, i .1,
+    let i = record-of x (g .0) in (
+      i .0,
+      i .1,
       subst (λ (y : Parts). Lies s p (part-bytes y)) (sym (i .1)) (g .1),
-      g .2 ∙ ap (λ (y : Parts). past p (part-bytes y)) (sym (i .1)) )
+      g .2 ∙ ap (λ (y : Parts). past p (part-bytes y)) (sym (i .1)),
+    )
 
 -- The bytes of a list read as the list.
 
@@ -65,8 +67,8 @@ module _ (s : Bytes) (end : ℕ) (w : Ends-by s end) where
       let q = p + length (bytes i) in
       let at : past p (bytes i) ≡ q = past-is p (bytes i) in
       let rest = reads-list is m q (omega arith)
-        (subst (λ (t : ℕ). Lies s t (program-bytes is)) at (d .1))
-        (ap s (ap (λ (t : ℕ). past t (program-bytes is)) (sym at) ∙ sym (past-append p (bytes i) (program-bytes is))) ∙ e) in
+      (subst (λ (t : ℕ). Lies s t (program-bytes is)) at (d .1))
+      (ap s (ap (λ (t : ℕ). past t (program-bytes is)) (sym at) ∙ sym (past-append p (bytes i) (program-bytes is))) ∙ e) in
       read-on m s p _ (d .0 .0)
       ∙ ap (λ (r : Read Parts). behind r λ q. read-from m s q) (reads-back i s p (d .0))
       ∙ ap (onto (parts i ∷ [])) rest
@@ -82,11 +84,12 @@ module _ (s : Bytes) (end : ℕ) (w : Ends-by s end) where
   module _ (small : Small s) where
     listed-behind : (i : Instruction) (p q : ℕ) (x : Parts) (xs : List Parts) → parts i ≡ x → Lies s p (bytes i) → q ≡ past p (bytes i) → Listed q xs → Listed p (x ∷ xs)
     listed-behind i p q x xs e h at l =
-        let is = l .0 in
-        ( i ∷ is,
+        let is = l .0 in (
+          i ∷ is,
           (λ j. e j ∷ l .1 j),
           lies-join s p (bytes i) (program-bytes is) h (subst (λ (t : ℕ). Lies s t (program-bytes is)) at (l .2)),
-          ap s (past-append p (bytes i) (program-bytes is) ∙ ap (λ (t : ℕ). past t (program-bytes is)) (sym at)) ∙ l .3 )
+          ap s (past-append p (bytes i) (program-bytes is) ∙ ap (λ (t : ℕ). past t (program-bytes is)) (sym at)) ∙ l .3,
+        )
 
     -- from the records that a source has, one by one
     accepted-at : (m : ℕ) → ((p : ℕ) (xs : List Parts) → end ≤ p + m → read-from m s p ≡ Ok xs → Listed p xs) → (o : Option ℕ) (p : ℕ) (xs : List Parts) → s p ≡ o → end ≤ p + suc m → read-from (suc m) s p ≡ Ok xs → Listed p xs
@@ -108,19 +111,21 @@ module _ (s : Bytes) (end : ℕ) (w : Ends-by s end) where
 
     begun-behind : (i : Instruction) (p q : ℕ) (f : ReadFault) → Lies s p (bytes i) → q ≡ past p (bytes i) → Begun q f → Begun p f
     begun-behind i p q f h at b =
-        let is = b .0 in
-        ( i ∷ is,
+        let is = b .0 in (
+          i ∷ is,
           lies-join s p (bytes i) (program-bytes is) h (subst (λ (t : ℕ). Lies s t (program-bytes is)) at (b .1)),
-          subst (λ (t : ℕ). First-fault s t f) (ap (λ (t : ℕ). past t (program-bytes is)) at ∙ sym (past-append p (bytes i) (program-bytes is))) (b .2) )
+          subst (λ (t : ℕ). First-fault s t f) (ap (λ (t : ℕ). past t (program-bytes is)) at ∙ sym (past-append p (bytes i) (program-bytes is))) (b .2),
+        )
 
     refused-at : (m : ℕ) → ((p : ℕ) (f : ReadFault) → read-from m s p ≡ Err f → Begun p f) → (o : Option ℕ) (p : ℕ) (f : ReadFault) → s p ≡ o → read-from (suc m) s p ≡ Err f → Begun p f
     refused-at m next None p f here e = absurd (not-both (sym e ∙ read-end (suc m) s p here))
     refused-at m next (Some b) p f here e =
         elim (behind-err (decode s p) (λ q. read-from m s q) f (sym (read-on m s p b here) ∙ e)) [
-          inl h ↦ ([], tt, first-fault s p f small h)
-        | inr h ↦
-            let r = read-record s p (h .0) (h .1) small (h .2) in
-            begun-behind (r .0) p (h .1) f (r .2) (r .3) (next (h .1) f (h .3)) ]
+          | inl h ↦ ([], tt, first-fault s p f small h)
+          | inr h ↦
+              let r = read-record s p (h .0) (h .1) small (h .2) in
+              begun-behind (r .0) p (h .1) f (r .2) (r .3) (next (h .1) f (h .3))
+        ]
 
     refused : (m p : ℕ) (f : ReadFault) → read-from m s p ≡ Err f → Begun p f
     refused zero p f e = absurd (not-both (sym e))

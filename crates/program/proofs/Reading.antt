@@ -38,8 +38,9 @@ read-on n s p b e = ap (λ (o : Option ℕ). unless-ended o (behind (decode s p)
 -- a byte stands before the end
 pub before-end : (s : Bytes) (n p b : ℕ) → Ends-by s n → s p ≡ Some b → p < n
 before-end s n p b w e = elim (cases-bool (ltb p n)) [
-    inl t ↦ ltb-true p n t
-  | inr t ↦ let z : _≡_ {A = ℕ} 0 1 = cc (w p (ltb-false p n t)) in absurd (omega arith) ]
+  | inl t ↦ ltb-true p n t
+  | inr t ↦ let z : _≡_ {A = ℕ} 0 1 = cc (w p (ltb-false p n t)) in absurd (omega arith)
+]
 
 -- a reading moves on
 pub moves-on : (s : Bytes) (p : ℕ) (x : Parts) (q : ℕ) → Small s → decode s p ≡ Ok (x, q) → p < q

@@ -62,14 +62,16 @@ laying-none is old = record { front = []; all = refl; count = refl; holds = refl
 -- bytes that were written had room
 written-ok : (bs : List ℕ) (room n : ℕ) → Ok n ≡ written bs room → (n ≡ length bs) × (length bs ≤ room)
 written-ok bs room n e = elim (cases-bool (ltb room (length bs))) [
-    inl t ↦ let z : _≡_ {A = ℕ} 0 1 = cc (e ∙ cond-true _ _ _ t) in absurd (omega arith)
-  | inr t ↦ let k : n ≡ length bs = cc (e ∙ cond-false _ _ _ t) in (k, ltb-false room (length bs) t) ]
+  | inl t ↦ let z : _≡_ {A = ℕ} 0 1 = cc (e ∙ cond-true _ _ _ t) in absurd (omega arith)
+  | inr t ↦ let k : n ≡ length bs = cc (e ∙ cond-false _ _ _ t) in (k, ltb-false room (length bs) t)
+]
 
 -- and bytes that were refused had none
 written-err : (bs : List ℕ) (room : ℕ) (f : WriteFault) → Err f ≡ written bs room → room < length bs
 written-err bs room f e = elim (cases-bool (ltb room (length bs))) [
-    inl t ↦ ltb-true room (length bs) t
-  | inr t ↦ let z : _≡_ {A = ℕ} 0 1 = cc (e ∙ cond-false _ _ _ t) in absurd (omega arith) ]
+  | inl t ↦ ltb-true room (length bs) t
+  | inr t ↦ let z : _≡_ {A = ℕ} 0 1 = cc (e ∙ cond-false _ _ _ t) in absurd (omega arith)
+]
 
 overlaid-fits : (bs old : List ℕ) → length bs ≤ length old → overlaid bs old ≡ bs ++ drop (length bs) old
 overlaid-fits bs old h = cond-false _ _ _ (le-ltb (length old) (length bs) h)
@@ -120,8 +122,8 @@ module _ (is : List Instruction) (old new : List ℕ) (k at : ℕ) (l : Laying i
     laying-more n ys r o =
         let c : n ≡ length (bytes i) = written-ok (bytes i) (length part) n r .0 in
         let there : ys ≡ bytes i ++ drop (at + n) old =
-          o ∙ ap (overlaid (bytes i)) part-is ∙ overlaid-fits (bytes i) (drop at old) room
-          ∙ ap (λ (m : ℕ). bytes i ++ drop m (drop at old)) (sym c) ∙ ap (λ (bs : List ℕ). bytes i ++ bs) (drop-drop n at old) in
+        o ∙ ap (overlaid (bytes i)) part-is ∙ overlaid-fits (bytes i) (drop at old) room
+        ∙ ap (λ (m : ℕ). bytes i ++ drop m (drop at old)) (sym c) ∙ ap (λ (bs : List ℕ). bytes i ++ bs) (drop-drop n at old) in
         record {
           front = l .front ++ bytes i;
           all = next-bytes;

@@ -32,10 +32,10 @@ returns c =
     record {
       answers = fits (size .result) (length out) (bytes i) (size .ensures .value) (c .if-out-size .left);
       after =
-        overlays out (code (i .operation)) (bytes-if (i .first)) (bytes-if (i .second)) (lead .last .out) (c .put-operand-if .last .out) (lead .result)
-        (lead .ensures .after ∙ ap (λ (x : ℕ). placed (set out 0 x) 1 (bytes-if (c .first .result))) byte ∙ ap (λ (o : Option Operand). placed (set out 0 (code (i .operation))) 1 (bytes-if o)) (c .first .ensures))
-        (lead .ensures .next ∙ ap (λ (o : Option Operand). 1 + length (bytes-if o)) (c .first .ensures))
-        (c .put-operand-if .ensures .after ∙ ap (λ (o : Option Operand). placed (lead .last .out) (lead .result) (bytes-if o)) (c .second .ensures))
-        (omega (arith, size .ensures .value, c .if-out-size .left));
+          overlays out (code (i .operation)) (bytes-if (i .first)) (bytes-if (i .second)) (lead .last .out) (c .put-operand-if .last .out) (lead .result)
+          (lead .ensures .after ∙ ap (λ (x : ℕ). placed (set out 0 x) 1 (bytes-if (c .first .result))) byte ∙ ap (λ (o : Option Operand). placed (set out 0 (code (i .operation))) 1 (bytes-if o)) (c .first .ensures))
+          (lead .ensures .next ∙ ap (λ (o : Option Operand). 1 + length (bytes-if o)) (c .first .ensures))
+          (c .put-operand-if .ensures .after ∙ ap (λ (o : Option Operand). placed (lead .last .out) (lead .result) (bytes-if o)) (c .second .ensures))
+          (omega (arith, size .ensures .value, c .if-out-size .left));
       reads-back = read-from-front i;
     }

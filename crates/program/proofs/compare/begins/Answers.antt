@@ -11,8 +11,8 @@ returns-then-first-second c = record {
 pub returns-then-not-is-same : need.returns-then-not-is-same
 returns-then-not-is-same c = record {
   answers =
-    differs (c .args .first .now) (c .args .second .now) (c .loop-k .k) (c .index-first-k .result) (c .index-second-k .result) (c .loop-k-test .taken) (c .if-first-second .left)
-    (c .index-first-k .is) (c .index-second-k .is) (λ e. false-true (sym (c .if-not-is-same .taken) ∙ c .is-same .ensures .1 e));
+      differs (c .args .first .now) (c .args .second .now) (c .loop-k .k) (c .index-first-k .result) (c .index-second-k .result) (c .loop-k-test .taken) (c .if-first-second .left)
+      (c .index-first-k .is) (c .index-second-k .is) (λ e. false-true (sym (c .if-not-is-same .taken) ∙ c .is-same .ensures .1 e));
   one-reading = one-reading (c .args .first .now) (c .args .second .now);
 }
 

@@ -14,6 +14,7 @@ returns c =
     let y = c .args .y .now in
     let a = c .write .ensures .after in
     let b = c .write-2 .ensures .after in
-    let d = matches-decides (c .write .last .out) (c .write-2 .last .out) (c .eq .result) (c .eq .ensures) in
-    ( λ e. same-written x y (replicate 11 0) (c .write .last .out) (c .write-2 .last .out) (omega arith) a b (d .0 e),
-      λ e. d .1 (a ∙ ap (λ (i : Instruction). overlaid (bytes i) (replicate 11 0)) e ∙ sym b) )
+    let d = matches-decides (c .write .last .out) (c .write-2 .last .out) (c .eq .result) (c .eq .ensures) in (
+      λ e. same-written x y (replicate 11 0) (c .write .last .out) (c .write-2 .last .out) (omega arith) a b (d .0 e),
+      λ e. d .1 (a ∙ ap (λ (i : Instruction). overlaid (bytes i) (replicate 11 0)) e ∙ sym b),
+    )

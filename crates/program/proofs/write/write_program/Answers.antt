@@ -27,9 +27,9 @@ loop-instruction-again c =
 pub add-at : need.add-at
 add-at c =
     let sum : c .loop-instruction .at + c .in-Ok .size ≤ length (c .loop-instruction .out) =
-      laying-sum (c .args .program .now) (c .args .out .now) (c .loop-instruction .out) (c .loop-instruction .instruction-index) (c .loop-instruction .at) (c .loop-instruction .inv)
-      (c .instruction-item .result) (measured (c .args .program .now) (length (c .args .out .now)) (c .in-Continue-total .total) (c .in-Continue-total .ensures tt))
-      (c .loop-instruction-test .taken) (sym (c .instruction-item .is)) (c .in-Ok .size) (c .in-Ok .ensures tt .answers) in
+    laying-sum (c .args .program .now) (c .args .out .now) (c .loop-instruction .out) (c .loop-instruction .instruction-index) (c .loop-instruction .at) (c .loop-instruction .inv)
+    (c .instruction-item .result) (measured (c .args .program .now) (length (c .args .out .now)) (c .in-Continue-total .total) (c .in-Continue-total .ensures tt))
+    (c .loop-instruction-test .taken) (sym (c .instruction-item .is)) (c .in-Ok .size) (c .in-Ok .ensures tt .answers) in
     search needs
 
 pub returns-in-Break-total : need.returns-in-Break-total
