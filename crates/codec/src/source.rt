@@ -55,6 +55,7 @@ pub impl<'a> Source for ByteString<'a> as ByteStringSource {
 
 // A stretch of memory: `length` bytes from the address `first` on, wrapping at 2^32. A byte that
 // is absent ends it earlier.
+#[derive(Drop)]
 pub struct Span<'a, M: Readable> {
     pub memory: &'a M,
     pub first: Address,

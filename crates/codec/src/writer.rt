@@ -1,7 +1,9 @@
 // Instructions into bytes.
 ghost use mathlib.Core.Path.{_≡_};
-ghost use Prim.Native.Nat.{_+_, _≤_};
-ghost use lib.ListN.{length};
+ghost use Prim.Native.Nat.{_+_, _<_, _≤_};
+ghost use lib.ListN.{length, set};
+ghost use Rattle.cisca.specs.Making.{parts};
+ghost use Rattle.cisca.specs.Table.{code};
 ghost use Rattle.codec.specs.Encoding.{bytes, bytes-if, mode-byte, operand-bytes};
 ghost use Rattle.codec.specs.Laws.{Read-from-front};
 ghost use Rattle.codec.specs.Writing.{overlaid, placed, written};
@@ -77,6 +79,14 @@ fn put_operand_if(out: &mut [u8], at: usize, operand: Option<Operand>) -> usize
     }
 }
 
+// The operation's byte at the front.
+fn put_operation(out: &mut [u8], instruction: &Instruction)
+    requires { ⌜ 0 < length (now out) ⌝ }
+    ensures { λ _. ⌜ now (out .exit) ≡ set (now (out .entry)) 0 (code (parts (now (instruction .entry)) .operation)) ⌝ }
+{
+    out[0] = instruction.operation().code();
+}
+
 // How many bytes an instruction has, from 1 to 11.
 pub fn encoded_length(instruction: &Instruction) -> usize
     ensures value { λ r. ⌜ r ≡ length (bytes (now (instruction .entry))) ⌝ }
@@ -96,7 +106,7 @@ pub fn write(instruction: &Instruction, out: &mut [u8]) -> Result<usize, WriteFa
     if out.len() < size {
         return Err(WriteFault::Short);
     }
-    out[0] = instruction.operation().code();
+    put_operation(out, instruction);
     let at = put_operand_if(out, 1, instruction.first());
     let _ = put_operand_if(out, at, instruction.second());
     Ok(size)

@@ -70,8 +70,8 @@ module _ (s : Bytes) (end : ℕ) (old new : List Instruction) (at k n : ℕ) (f 
   pub filling-refused : (g : ReadFault) → read (Err g) ≡ answer s at → ⊥
   filling-refused g e = not-both (sym (next-err s at g e) ∙ ahead .3)
 
-  pub filling-more : (i : Instruction) (q : ℕ) → n ≤ length old → read (Ok i) ≡ answer s at → q ≡ place-after s at → Filling s end old (set new k i) q (k + 1) n
-  filling-more i q room e m =
+  pub filling-more : (i : Instruction) (next : List Instruction) (q : ℕ) → n ≤ length old → next ≡ set new k i → read (Ok i) ≡ answer s at → q ≡ place-after s at → Filling s end old next q (k + 1) n
+  filling-more i next q room put e m =
       let a = ahead in
       let both : _≡_ {A = Parts × ℕ} (parts i, q) (a .0, a .1) = un-ok (sym (next-ok s at q i e m) ∙ a .3) in
       let same : parts i ≡ a .0 = ap (λ (y : Parts × ℕ). y .0) both in
@@ -88,7 +88,7 @@ module _ (s : Bytes) (end : ℕ) (old new : List Instruction) (at k n : ℕ) (f 
         left = ap (λ (m : ℕ). read-from m s q) (omega arith) ∙ ap (read-from (end - k - 1) s) (ap (λ (y : Parts × ℕ). y .1) both) ∙ a .4;
         total = let t = f .total in omega arith;
         holds =
-            ap (λ (l : List Instruction). set l k i) (f .holds ∙ ap (λ (l : List Instruction). f .done ++ l) (drop-more old k i within))
+            put ∙ ap (λ (l : List Instruction). set l k i) (f .holds ∙ ap (λ (l : List Instruction). f .done ++ l) (drop-more old k i within))
             ∙ set-at (f .done) (getD old k i) (drop (k + 1) old) i k (f .count)
             ∙ sym (append-assoc (f .done) (i ∷ []) (drop (k + 1) old));
       }

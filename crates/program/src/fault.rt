@@ -40,7 +40,7 @@ impl ProgramFault {
 pub impl From<ReadFault> for ProgramFault as ReadProgramFault {
     ghost converts = { λ x y. y ≡ Read x };
 
-    fn from(fault: ReadFault) -> ProgramFault {
-        ProgramFault::Read(fault)
+    fn from(value: ReadFault) -> ProgramFault {
+        ProgramFault::Read(value)
     }
 }

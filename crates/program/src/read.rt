@@ -1,7 +1,8 @@
 // A whole program into the caller's list of records, after a first run that only checks.
 ghost use mathlib.Core.List.{map};
 ghost use mathlib.Core.Path.{_≡_};
-ghost use lib.ListN.{length};
+ghost use Prim.Native.Nat.{_<_};
+ghost use lib.ListN.{length, set};
 ghost use Rattle.cisca.specs.Making.{parts};
 ghost use Rattle.program.specs.Laws.{Program-reads-back, Program-stops-at-first-fault, Program-writes-back};
 ghost use Rattle.program.specs.Programs.{counted, filled, filling, whole};
@@ -26,6 +27,14 @@ fn count<S: Source>(source: &S) -> Result<usize, ReadFault>
     Ok(n)
 }
 
+// Puts a record at its place in the list.
+fn store(out: &mut [Instruction], at: usize, instruction: Instruction)
+    requires { ⌜ at < length (now out) ⌝ }
+    ensures { λ _. ⌜ now (out .exit) ≡ set (now (out .entry)) at instruction ⌝ }
+{
+    out[at] = instruction;
+}
+
 // Reads all of a source into the front of a list, and answers how many records there are. Where an
 // instruction is refused, or the list is too short, the list is left as it was.
 pub fn read_program<S: Source>(source: &S, out: &mut [Instruction]) -> Result<usize, ProgramFault>
@@ -43,7 +52,7 @@ pub fn read_program<S: Source>(source: &S, out: &mut [Instruction]) -> Result<us
     for k in 0..n {
         match read_next(source, &mut place) {
             Ok(instruction) => {
-                out[k] = instruction;
+                store(out, k, instruction);
             }
             Err(_) => unreachable(),
         }

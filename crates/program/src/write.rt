@@ -1,6 +1,8 @@
 // A whole program into the caller's buffer, after a first run that only measures.
 ghost use mathlib.Core.List.{map};
 ghost use mathlib.Core.Path.{_≡_};
+ghost use Prim.Native.Nat.{_-_, _≤_};
+ghost use lib.Dec.{ltb};
 ghost use lib.ListN.{length};
 ghost use Rattle.codec.specs.Writing.{overlaid, written};
 ghost use Rattle.program.specs.Laws.{Program-read-whole};
@@ -10,6 +12,14 @@ use codec::fault::WriteFault;
 use codec::writer::encoded_length;
 use codec::writer::write;
 
+// Whether so many more bytes do not fit behind those that are measured.
+fn exceeds(size: usize, total: usize, room: usize) -> bool
+    requires { ⌜ total ≤ room ⌝ }
+    ensures { λ r. ⌜ r ≡ ltb (room - total) size ⌝ }
+{
+    room - total < size
+}
+
 // How many bytes a program has, where there is room for them.
 fn measure(program: &[Instruction], room: usize) -> Result<usize, WriteFault>
     ensures { λ r. ⌜ r ≡ written (program-bytes (now (program .entry))) room ⌝ }
@@ -17,7 +27,7 @@ fn measure(program: &[Instruction], room: usize) -> Result<usize, WriteFault>
     let mut total: usize = 0;
     for instruction in program {
         let size = encoded_length(instruction);
-        if room - total < size {
+        if exceeds(size, total, room) {
             return Err(WriteFault::Short);
         }
         total += size;

@@ -1,4 +1,5 @@
-use mathlib.Core.Path.{_∙_, ap, sym}
+use mathlib.Core.List.{List}
+use mathlib.Core.Path.{_∙_, ap}
 use native.Mathlib.Omega.{arith}
 use Prim.Native.Nat.{ℕ, _+_}
 use lib.ListN.{length, set}
@@ -28,12 +29,11 @@ returns c =
     let out = c .args .out .now in
     let size = c .encoded-length-size in
     let lead = c .put-operand-if-at in
-    let byte = c .code .ensures ∙ ap code (c .operation .ensures) in
     record {
       answers = fits (size .result) (length out) (bytes i) (size .ensures .value) (c .if-out-size .left);
       after =
           overlays out (code (i .operation)) (bytes-if (i .first)) (bytes-if (i .second)) (lead .last .out) (c .put-operand-if .last .out) (lead .result)
-          (lead .ensures .after ∙ ap (λ (x : ℕ). placed (set out 0 x) 1 (bytes-if (c .first .result))) byte ∙ ap (λ (o : Option Operand). placed (set out 0 (code (i .operation))) 1 (bytes-if o)) (c .first .ensures))
+          (lead .ensures .after ∙ ap (λ (l : List ℕ). placed l 1 (bytes-if (c .first .result))) (c .put-operation .ensures) ∙ ap (λ (o : Option Operand). placed (set out 0 (code (i .operation))) 1 (bytes-if o)) (c .first .ensures))
           (lead .ensures .next ∙ ap (λ (o : Option Operand). 1 + length (bytes-if o)) (c .first .ensures))
           (c .put-operand-if .ensures .after ∙ ap (λ (o : Option Operand). placed (lead .last .out) (lead .result) (bytes-if o)) (c .second .ensures))
           (omega (arith, size .ensures .value, c .if-out-size .left));

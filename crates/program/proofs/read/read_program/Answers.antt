@@ -54,7 +54,7 @@ unreachable-requires g c κs =
 pub loop-k-again : need.loop-k-again
 loop-k-again g c =
     filling-more (g .S·Source .shows (c .args .source .now)) (g .S·Source .extent (c .args .source .now)) (c .args .out .now) (c .loop-k .out) (c .loop-k .place .offset) (c .loop-k .k) (c .in-Continue-n .n)
-    (c .loop-k .inv) (c .loop-k-test .taken) (c .in-Ok .instruction) (c .read-next .last .place .offset) (c .if-out-n .left) (c .in-Ok .ensures tt .answers) (c .in-Ok .ensures tt .moves)
+    (c .loop-k .inv) (c .loop-k-test .taken) (c .in-Ok .instruction) (c .store .last .out) (c .read-next .last .place .offset) (c .if-out-n .left) (c .store .ensures) (c .in-Ok .ensures tt .answers) (c .in-Ok .ensures tt .moves)
 
 pub returns : need.returns
 returns g c =
