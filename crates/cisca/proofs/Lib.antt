@@ -1,4 +1,3 @@
 pub mod Codes
 pub mod Finds
-pub mod Modes
 pub mod Same

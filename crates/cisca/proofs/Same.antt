@@ -2,15 +2,11 @@
 use mathlib.Core.HLevel.{isProp→PathP}
 use mathlib.Core.Bool.{Bool, false, true}
 use mathlib.Core.Path.{_≡_, refl, subst, sym}
-use lib.Dec.{T, T-prop, ltb}
+use lib.Dec.{T, T-prop}
 use Rattle.cisca.specs.declared.instruction.Instruction.{Instruction}
-use Rattle.cisca.specs.declared.register.Register.{Register}
 use Rattle.cisca.specs.Legality.{pairing}
 use Rattle.cisca.specs.Making.{Parts, parts}
-use Rattle.cisca.specs.Widths.{all-within}
-
-pub same-register : (r s : Register) → r .index ≡ s .index → r ≡ s
-same-register r s e = λ i. record { index = e i; below = isProp→PathP (λ i. T (ltb (e i) 16)) (λ i. T-prop (ltb (e i) 16)) (r .below) (s .below) i }
+use Rattle.operands.specs.Widths.{all-within}
 
 -- a record is known by its parts
 pub same-instruction : (x y : Instruction) → parts x ≡ parts y → x ≡ y

@@ -2,10 +2,10 @@
 use mathlib.Core.Bool.{Bool}
 use Rattle.std.specs.declared.option.Option.{Option}
 use Rattle.std.specs.declared.option.Option.the-variants.{None, Some}
-use Rattle.cisca.specs.declared.operand.Mode.{Mode}
-use Rattle.cisca.specs.declared.operand.Operand.{Operand}
+use Rattle.operands.specs.declared.mode.Mode.{Mode}
+use Rattle.operands.specs.declared.operand.Operand.{Operand}
 use Rattle.cisca.specs.declared.operation.Operation.{Operation}
-use Rattle.cisca.specs.Modes.{mode}
+use Rattle.operands.specs.Modes.{mode}
 use Rattle.cisca.specs.Pairings.{legal-pairing}
 
 -- the mode of an operand, if there is one

@@ -7,7 +7,7 @@ use Rattle.std.specs.declared.result.Result.the-variants.{Err, Ok}
 use Rattle.cisca.specs.declared.instruction.Instruction.{Instruction}
 use Rattle.cisca.specs.declared.instruction.making.MakingFault.{MakingFault}
 use Rattle.cisca.specs.declared.instruction.making.MakingFault.the-variants.{Illegal}
-use Rattle.cisca.specs.declared.operand.Operand.{Operand}
+use Rattle.operands.specs.declared.operand.Operand.{Operand}
 use Rattle.cisca.specs.declared.operation.Operation.{Operation}
 use Rattle.cisca.specs.Legality.{pairing}
 

@@ -6,8 +6,8 @@ use lib.Chars.{codes}
 use lib.Dec.{eqb}
 use Rattle.std.specs.declared.option.Option.{Option}
 use Rattle.std.specs.declared.option.Option.the-variants.{None, Some}
-use Rattle.cisca.specs.declared.group.Group.{Group}
-use Rattle.cisca.specs.declared.group.Group.the-variants.{Bare, Inward, Jump, Outward, Pair, Single, Target}
+use Rattle.operands.specs.declared.group.Group.{Group}
+use Rattle.operands.specs.declared.group.Group.the-variants.{Bare, Inward, Jump, Outward, Pair, Single, Target}
 use Rattle.cisca.specs.declared.operation.Operation.{Operation}
 use Rattle.cisca.specs.declared.operation.Operation.the-variants.{Add, And, Call, Cli, Cmp, Dec, Div, In, Inc, Int, Iret, Je, Jg, Jge, Jl, Jle, Jmp, Jne, Mov, Mul, Neg, Nop, Not, Or, Out, Pop, Push, Ret, Sal, Sar, Sti, Sub, Test, Xor}
 use Rattle.cisca.specs.declared.operation.Row.{Row}
@@ -63,6 +63,10 @@ group o = row-of o .group
 abbrev pub operations : List Operation
 operations = Nop ∷ Sti ∷ Cli ∷ Mov ∷ Push ∷ Pop ∷ Add ∷ Sub ∷ Mul ∷ Div ∷ Inc ∷ Dec ∷ Cmp ∷ Neg ∷ And ∷ Or ∷ Xor ∷ Test ∷ Not ∷ Sal ∷ Sar ∷ Jmp ∷ Je ∷ Jne ∷ Jl ∷ Jle ∷ Jg ∷ Jge ∷ Call ∷ Ret ∷ Int ∷ Iret ∷ In ∷ Out ∷ []
 
+-- the table
+abbrev pub all-rows : List Row
+all-rows = map row-of operations
+
 -- the operation of the first row with this byte
 abbrev pub row-of-code : List Row → ℕ → Option Operation
 row-of-code [] c = None
@@ -70,4 +74,4 @@ row-of-code (r ∷ rs) c = cond (eqb (r .code) c) (Some (r .operation)) (row-of-
 
 -- the operation of this byte
 abbrev pub operation-of : ℕ → Option Operation
-operation-of c = row-of-code (map row-of operations) c
+operation-of c = row-of-code all-rows c

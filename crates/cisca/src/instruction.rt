@@ -1,11 +1,11 @@
 // A record of an instruction, legal from its making on.
 ghost use lib.Dec.{T};
 ghost use Rattle.cisca.specs.Legality.{pairing};
-ghost use Rattle.cisca.specs.Widths.{all-within};
-use crate::operand::Operand;
-use crate::operand::OperandPartialEq;
+ghost use Rattle.operands.specs.Widths.{all-within};
 use crate::operation::Operation;
 use crate::operation::OperationPartialEq;
+use operands::operand::Operand;
+use operands::operand::OperandPartialEq;
 
 pub mod making;
 

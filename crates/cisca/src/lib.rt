@@ -1,6 +1,3 @@
-// The instructions of the CISCA machine: operations, registers, operands, and which go together.
-pub mod group;
+// The instructions of the CISCA machine: the operations, and records that are legal.
 pub mod instruction;
-pub mod operand;
 pub mod operation;
-pub mod register;

@@ -1,8 +1,8 @@
 // The operations, with their bytes, mnemonics and operand groups: one table.
 ghost use mathlib.Core.Path.{_≡_};
 ghost use Rattle.std.specs.Orderings.{Decides};
-ghost use Rattle.cisca.specs.Table.{code, group, letters, operation-of, row-of-code};
-use crate::group::Group;
+ghost use Rattle.cisca.specs.Table.{code, group, letters, operation-of, row-of-code, all-rows};
+use operands::group::Group;
 
 #[derive(Clone, Copy, Eq)]
 pub enum Operation {
@@ -264,28 +264,35 @@ impl Operation {
     pub fn code(self) -> u8
         ensures { λ r. ⌜ r ≡ code self ⌝ }
     {
-        OPERATIONS[self as usize].code
+        table()[self as usize].code
     }
 
     // The operation's name in four capitals, filled with blanks on the right.
     pub fn mnemonic(self) -> [u8; 4]
         ensures { λ r. ⌜ r ≡ letters self ⌝ }
     {
-        OPERATIONS[self as usize].mnemonic
+        table()[self as usize].mnemonic
     }
 
     pub fn group(self) -> Group
         ensures { λ r. ⌜ r ≡ group self ⌝ }
     {
-        OPERATIONS[self as usize].group
+        table()[self as usize].group
     }
 
     // The operation of this byte, if there is one.
     pub fn from_code(code: u8) -> Option<Operation>
         ensures { λ r. ⌜ r ≡ operation-of code ⌝ }
     {
-        find_code(&OPERATIONS, code)
+        find_code(table(), code)
     }
+}
+
+// The table's rows.
+fn table() -> &'static [Row; 34]
+    ensures { λ r. ⌜ now r ≡ all-rows ⌝ }
+{
+    &OPERATIONS
 }
 
 // Two operations are the same exactly where their bytes are.

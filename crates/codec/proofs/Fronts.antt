@@ -17,9 +17,9 @@ use Rattle.std.specs.declared.result.Result.the-variants.{Ok}
 use Rattle.cisca.proofs.Codes.{code-small}
 use Rattle.cisca.specs.Making.{parts}
 use Rattle.cisca.specs.declared.instruction.Instruction.{Instruction}
-use Rattle.cisca.specs.declared.operand.Operand.{Operand}
-use Rattle.cisca.specs.declared.operand.Operand.the-variants.{Direct, Immediate, Indexed, Indirect, PcRelative, Register, Relative}
-use Rattle.cisca.specs.declared.register.Register as reg
+use Rattle.operands.specs.declared.operand.Operand.{Operand}
+use Rattle.operands.specs.declared.operand.Operand.the-variants.{Direct, Immediate, Indexed, Indirect, PcRelative, Register, Relative}
+use Rattle.operands.specs.declared.register.Register as reg
 use Rattle.codec.specs.Decoding.{decode}
 use Rattle.codec.specs.Encoding.{bytes, bytes-if, four-bytes, operand-bytes, two-bytes}
 use Rattle.codec.specs.Laws.{Lies, Read-from-front}

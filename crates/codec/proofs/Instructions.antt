@@ -13,14 +13,14 @@ use Rattle.cisca.proofs.Codes.{code-finds, code-found}
 use Rattle.cisca.proofs.Same.{Legal}
 use Rattle.cisca.specs.Legality.{mode-if, pairing}
 use Rattle.cisca.specs.Making.{Parts, assembled, making}
-use Rattle.cisca.specs.Modes.{mode}
-use Rattle.cisca.specs.Pairings.{first-fits, grouped, operand-count, second-fits}
+use Rattle.operands.specs.Modes.{mode}
+use Rattle.operands.specs.Groups.{first-fits, grouped, operand-count, second-fits}
 use Rattle.cisca.specs.Table.{code, group, operation-of}
-use Rattle.cisca.specs.Widths.{all-within, within}
-use Rattle.cisca.specs.declared.group.Group.{Group}
-use Rattle.cisca.specs.declared.group.Group.the-variants.{Bare, Inward, Jump, Outward, Pair, Single, Target}
-use Rattle.cisca.specs.declared.operand.Operand.{Operand}
-use Rattle.cisca.specs.declared.operand.Operand.the-variants.{Immediate, Indirect, PcRelative, Register}
+use Rattle.operands.specs.Widths.{all-within, within}
+use Rattle.operands.specs.declared.group.Group.{Group}
+use Rattle.operands.specs.declared.group.Group.the-variants.{Bare, Inward, Jump, Outward, Pair, Single, Target}
+use Rattle.operands.specs.declared.operand.Operand.{Operand}
+use Rattle.operands.specs.declared.operand.Operand.the-variants.{Immediate, Indirect, PcRelative, Register}
 use Rattle.cisca.specs.declared.operation.Operation.{Operation}
 use Rattle.cisca.specs.declared.operation.Operation.the-variants as op
 use Rattle.codec.specs.Decoding.{Operands, Read, after, decode, displacement, fits-behind, judged-at, judged-operation, known, number, one-at, operand-at, operands-at, pair-at, register-of}

@@ -15,15 +15,15 @@ use Rattle.std.specs.declared.option.Option.{Option}
 use Rattle.std.specs.declared.option.Option.the-variants.{None, Some}
 use Rattle.std.specs.declared.result.Result.{Result}
 use Rattle.std.specs.declared.result.Result.the-variants.{Err, Ok}
-use Rattle.cisca.proofs.Modes.{mode-found, number-finds}
-use Rattle.cisca.proofs.Same.{same-register}
-use Rattle.cisca.specs.Modes.{mode, mode-number, mode-of, unregistered}
-use Rattle.cisca.specs.Widths.{short, within}
-use Rattle.cisca.specs.declared.operand.Mode.{Mode}
-use Rattle.cisca.specs.declared.operand.Mode.the-variants as m
-use Rattle.cisca.specs.declared.operand.Operand.{Operand}
-use Rattle.cisca.specs.declared.operand.Operand.the-variants.{Direct, Immediate, Indexed, Indirect, PcRelative, Register, Relative}
-use Rattle.cisca.specs.declared.register.Register as reg
+use Rattle.operands.proofs.Modes.{mode-found, number-finds}
+use Rattle.operands.proofs.Same.{same-register}
+use Rattle.operands.specs.Modes.{mode, mode-number, mode-of, unregistered}
+use Rattle.operands.specs.Widths.{short, within}
+use Rattle.operands.specs.declared.mode.Mode.{Mode}
+use Rattle.operands.specs.declared.mode.Mode.the-variants as m
+use Rattle.operands.specs.declared.operand.Operand.{Operand}
+use Rattle.operands.specs.declared.operand.Operand.the-variants.{Direct, Immediate, Indexed, Indirect, PcRelative, Register, Relative}
+use Rattle.operands.specs.declared.register.Register as reg
 use Rattle.codec.specs.Decoding.{Read, address, after, clean, displacement, four-at, judged-at, judged-mode, known, number, operand-at, provided, register-of, two-at, valued-at}
 use Rattle.codec.specs.Encoding.{digit, four-bytes, mode-byte, operand-bytes, two-bytes, value-bytes}
 use Rattle.codec.specs.Faults.{fault}

@@ -11,17 +11,17 @@ use Rattle.std.specs.declared.option.Option.the-variants.{None, Some}
 use Rattle.std.specs.declared.result.Result.{Result}
 use Rattle.std.specs.declared.result.Result.the-variants.{Err, Ok}
 use Rattle.cisca.specs.Making.{Parts, assembled, parts}
-use Rattle.cisca.specs.Modes.{mode, mode-of, unregistered}
-use Rattle.cisca.specs.Pairings.{first-fits, operand-count, second-fits}
+use Rattle.operands.specs.Modes.{mode, mode-of, unregistered}
+use Rattle.operands.specs.Groups.{first-fits, operand-count, second-fits}
 use Rattle.cisca.specs.Table.{group, operation-of}
-use Rattle.cisca.specs.declared.group.Group.{Group}
+use Rattle.operands.specs.declared.group.Group.{Group}
 use Rattle.cisca.specs.declared.instruction.Instruction.{Instruction}
-use Rattle.cisca.specs.declared.operand.Mode.{Mode}
-use Rattle.cisca.specs.declared.operand.Mode.the-variants as m
-use Rattle.cisca.specs.declared.operand.Operand.{Operand}
-use Rattle.cisca.specs.declared.operand.Operand.the-variants.{Direct, Immediate, Indexed, Indirect, PcRelative, Register, Relative}
+use Rattle.operands.specs.declared.mode.Mode.{Mode}
+use Rattle.operands.specs.declared.mode.Mode.the-variants as m
+use Rattle.operands.specs.declared.operand.Operand.{Operand}
+use Rattle.operands.specs.declared.operand.Operand.the-variants.{Direct, Immediate, Indexed, Indirect, PcRelative, Register, Relative}
 use Rattle.cisca.specs.declared.operation.Operation.{Operation}
-use Rattle.cisca.specs.declared.register.Register as reg
+use Rattle.operands.specs.declared.register.Register as reg
 use Rattle.quantity.specs.declared.Address.{Address}
 use Rattle.quantity.specs.declared.Displacement.{Displacement}
 use Rattle.quantity.specs.declared.Number.{Number}

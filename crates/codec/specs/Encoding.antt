@@ -6,11 +6,11 @@ use mir.Val.{ofZ}
 use Rattle.std.specs.declared.option.Option.{Option}
 use Rattle.std.specs.declared.option.Option.the-variants.{None, Some}
 use Rattle.cisca.specs.Making.{Parts, parts}
-use Rattle.cisca.specs.Modes.{mode, mode-number}
+use Rattle.operands.specs.Modes.{mode, mode-number}
 use Rattle.cisca.specs.Table.{code}
 use Rattle.cisca.specs.declared.instruction.Instruction.{Instruction}
-use Rattle.cisca.specs.declared.operand.Operand.{Operand}
-use Rattle.cisca.specs.declared.operand.Operand.the-variants.{Direct, Immediate, Indexed, Indirect, PcRelative, Register, Relative}
+use Rattle.operands.specs.declared.operand.Operand.{Operand}
+use Rattle.operands.specs.declared.operand.Operand.the-variants.{Direct, Immediate, Indexed, Indirect, PcRelative, Register, Relative}
 
 -- two and four bytes, lowest first
 abbrev pub two-bytes : ℕ → List ℕ

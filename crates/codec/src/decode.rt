@@ -2,7 +2,7 @@
 // the place behind it.
 ghost use mathlib.Core.Path.{_≡_};
 ghost use Rattle.std.specs.declared.option.Option.the-variants.{Some};
-ghost use Rattle.cisca.specs.Modes.{mode};
+ghost use Rattle.operands.specs.Modes.{mode};
 ghost use Rattle.cisca.specs.Table.{group as group-of};
 ghost use Rattle.codec.specs.Faults.{fault as fault-at};
 ghost use Rattle.codec.specs.Decoding.{byte-at, clean, decode, fits-behind, four-at, judged-at, judged-mode, judged-operation, one-at, operand-at, operands-at, pair-at, read-parts, two-at, valued-at};
@@ -10,12 +10,12 @@ use crate::fault::Place;
 use crate::fault::ReadCause;
 use crate::fault::ReadFault;
 use crate::source::Source;
-use cisca::group::Group;
 use cisca::instruction::Instruction;
-use cisca::operand::Mode;
-use cisca::operand::Operand;
 use cisca::operation::Operation;
-use cisca::register::Register;
+use operands::group::Group;
+use operands::mode::Mode;
+use operands::operand::Operand;
+use operands::register::Register;
 use quantity::Address;
 use quantity::Displacement;
 use quantity::Number;

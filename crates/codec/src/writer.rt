@@ -9,7 +9,7 @@ ghost use Rattle.codec.specs.Laws.{Read-from-front};
 ghost use Rattle.codec.specs.Writing.{overlaid, placed, written};
 use crate::fault::WriteFault;
 use cisca::instruction::Instruction;
-use cisca::operand::Operand;
+use operands::operand::Operand;
 
 fn put_all(out: &mut [u8], at: usize, source: &[u8]) -> usize
     requires { ⌜ at + length (now source) ≤ length (now out) ⌝ }

@@ -7,7 +7,7 @@ use Rattle.std.specs.declared.option.Option.{Option}
 use Rattle.std.specs.declared.option.Option.the-variants.{None, Some}
 use Rattle.std.specs.declared.result.Result.the-variants.{Err, Ok}
 use Rattle.cisca.specs.Making.{assembled}
-use Rattle.cisca.specs.declared.operand.Operand.the-variants.{Immediate, Indexed, PcRelative, Register, Relative}
+use Rattle.operands.specs.declared.operand.Operand.the-variants.{Immediate, Indexed, PcRelative, Register, Relative}
 use Rattle.cisca.specs.declared.operation.Operation.the-variants.{Add, Jl, Push, Xor}
 use Rattle.cisca.specs.Making.{Parts}
 use Rattle.codec.specs.Decoding.{Read, address, decode, number, register-of}

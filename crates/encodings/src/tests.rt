@@ -2,9 +2,7 @@
 use cisca::instruction::Instruction;
 use cisca::instruction::InstructionPartialEq;
 use cisca::instruction::making::MakingFaultDebug;
-use cisca::operand::Operand;
 use cisca::operation::Operation;
-use cisca::register::Register;
 use codec::reader::Reader;
 use codec::source::ByteString;
 use codec::source::ByteStringSource;
@@ -14,6 +12,8 @@ use codec::source::SpanSource;
 use codec::writer::write;
 use memory::read_only_chip::ReadOnlyChip;
 use memory::read_only_chip::ReadOnlyChipReadable;
+use operands::operand::Operand;
+use operands::register::Register;
 use program::compare::begins;
 use program::read::read_program;
 use program::write::write_program;

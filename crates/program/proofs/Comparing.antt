@@ -14,8 +14,8 @@ use Rattle.std.specs.declared.option.Option.the-variants.{None, Some}
 use Rattle.cisca.proofs.Same.{same-instruction}
 use Rattle.cisca.specs.Making.{Parts, parts}
 use Rattle.cisca.specs.declared.instruction.Instruction.{Instruction}
-use Rattle.cisca.specs.declared.operand.Operand.{Operand}
-use Rattle.cisca.specs.declared.operand.Operand.the-variants.{Direct, Immediate, Indexed, Indirect, PcRelative, Register, Relative}
+use Rattle.operands.specs.declared.operand.Operand.{Operand}
+use Rattle.operands.specs.declared.operand.Operand.the-variants.{Direct, Immediate, Indexed, Indirect, PcRelative, Register, Relative}
 use Rattle.codec.proofs.Exact.{un-ok}
 use Rattle.codec.proofs.Laws.{reads-back}
 use Rattle.codec.proofs.Prefixes.{lies-front, plain}

@@ -1,7 +1,7 @@
 // Instructions as text.
 use cisca::instruction::Instruction;
-use cisca::operand::Operand;
 use codec::fault::ReadCause;
+use operands::operand::Operand;
 use quantity::Displacement;
 use std::fmt;
 use std::str::from_utf8;

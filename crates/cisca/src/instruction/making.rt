@@ -6,8 +6,8 @@ ghost use Rattle.cisca.specs.Legality.{pairing};
 ghost use Rattle.cisca.specs.Making.{made, making, number-of};
 ghost use Rattle.cisca.specs.Pairings.{legal-pairings};
 use super::Instruction;
-use crate::operand::Operand;
 use crate::operation::Operation;
+use operands::operand::Operand;
 
 // Why a record is not made.
 #[derive(Clone, Copy, PartialEq, Eq, Debug)]

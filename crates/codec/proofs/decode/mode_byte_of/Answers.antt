@@ -1,5 +1,5 @@
 use mathlib.Core.Path.{_∙_, sym}
-use Rattle.cisca.proofs.Same.{same-register}
+use Rattle.operands.proofs.Same.{same-register}
 use Rattle.codec.specs.Decoding.{fits-behind, register-of}
 use Rattle.codec.proofs.Operands.{judged-is}
 use Rattle.codec.proofs.decode.mode_byte_of.Needs as need

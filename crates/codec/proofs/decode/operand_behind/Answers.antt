@@ -1,6 +1,6 @@
 use mathlib.Core.Path.{_∙_, ap}
 use Rattle.std.specs.declared.option.Option.the-variants.{Some}
-use Rattle.cisca.specs.declared.operand.Mode.{Mode}
+use Rattle.operands.specs.declared.mode.Mode.{Mode}
 use Rattle.codec.specs.Decoding.{fits-behind, operand-at}
 use Rattle.codec.proofs.decode.operand_behind.Needs as need
 

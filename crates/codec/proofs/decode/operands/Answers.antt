@@ -1,5 +1,5 @@
 use mathlib.Core.Path.{_∙_, ap}
-use Rattle.cisca.specs.declared.group.Group.{Group}
+use Rattle.operands.specs.declared.group.Group.{Group}
 use Rattle.codec.specs.Decoding.{operands-at}
 use Rattle.codec.proofs.decode.operands.Needs as need
 

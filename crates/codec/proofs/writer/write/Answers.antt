@@ -5,7 +5,7 @@ use Prim.Native.Nat.{ℕ, _+_}
 use lib.ListN.{length, set}
 use Rattle.std.specs.declared.option.Option.{Option}
 use Rattle.cisca.specs.Table.{code}
-use Rattle.cisca.specs.declared.operand.Operand.{Operand}
+use Rattle.operands.specs.declared.operand.Operand.{Operand}
 use Rattle.codec.specs.Encoding.{bytes, bytes-if}
 use Rattle.codec.specs.Writing.{placed}
 use Rattle.codec.proofs.Fronts.{read-from-front}

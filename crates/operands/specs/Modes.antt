@@ -5,10 +5,10 @@ use Prim.Native.Nat.{ℕ}
 use lib.Dec.{eqb}
 use Rattle.std.specs.declared.option.Option.{Option}
 use Rattle.std.specs.declared.option.Option.the-variants.{None, Some}
-use Rattle.cisca.specs.declared.operand.Mode.{Mode}
-use Rattle.cisca.specs.declared.operand.Mode.the-variants as m
-use Rattle.cisca.specs.declared.operand.Operand.{Operand}
-use Rattle.cisca.specs.declared.operand.Operand.the-variants.{Direct, Immediate, Indexed, Indirect, PcRelative, Register, Relative}
+use Rattle.operands.specs.declared.mode.Mode.{Mode}
+use Rattle.operands.specs.declared.mode.Mode.the-variants as m
+use Rattle.operands.specs.declared.operand.Operand.{Operand}
+use Rattle.operands.specs.declared.operand.Operand.the-variants.{Direct, Immediate, Indexed, Indirect, PcRelative, Register, Relative}
 
 abbrev pub mode : Operand → Mode
 mode (Immediate n) = m.Immediate

@@ -1,7 +1,7 @@
 // Which operands an operation takes: the rule of the legal pairings.
 ghost use mathlib.Core.Path.{_≡_};
-ghost use Rattle.cisca.specs.Pairings.{first-fits, operand-count, second-fits};
-use crate::operand::Mode;
+ghost use Rattle.operands.specs.Groups.{first-fits, operand-count, second-fits};
+use crate::mode::Mode;
 
 // A group of operations that take the same operands.
 #[derive(Clone, Copy)]

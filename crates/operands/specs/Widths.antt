@@ -5,8 +5,8 @@ use lib.Dec.{ltb}
 use lib.IntN.{ℤ, negsuc, pos}
 use Rattle.std.specs.declared.option.Option.{Option}
 use Rattle.std.specs.declared.option.Option.the-variants.{None, Some}
-use Rattle.cisca.specs.declared.operand.Operand.{Operand}
-use Rattle.cisca.specs.declared.operand.Operand.the-variants.{Direct, Immediate, Indexed, Indirect, PcRelative, Register, Relative}
+use Rattle.operands.specs.declared.operand.Operand.{Operand}
+use Rattle.operands.specs.declared.operand.Operand.the-variants.{Direct, Immediate, Indexed, Indirect, PcRelative, Register, Relative}
 
 -- from -32,768 to 32,767
 abbrev pub short : ℤ → Bool

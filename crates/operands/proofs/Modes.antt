@@ -9,9 +9,9 @@ use lib.Dec.{eqb}
 use Rattle.std.proofs.shelf.Tests.{cases-bool, cond-false, cond-true, eqb-true}
 use Rattle.std.specs.declared.option.Option.{Option}
 use Rattle.std.specs.declared.option.Option.the-variants.{None, Some}
-use Rattle.cisca.specs.Modes.{mode-among, mode-number, mode-of, modes}
-use Rattle.cisca.specs.declared.operand.Mode.{Mode}
-use Rattle.cisca.specs.declared.operand.Mode.the-variants as m
+use Rattle.operands.specs.Modes.{mode-among, mode-number, mode-of, modes}
+use Rattle.operands.specs.declared.mode.Mode.{Mode}
+use Rattle.operands.specs.declared.mode.Mode.the-variants as m
 
 pub number-finds : (x : Mode) → mode-of (mode-number x) ≡ Some x
 number-finds m.Immediate = refl
