@@ -2,7 +2,7 @@
 use mathlib.Core.Bool.{Bool, cond, _&&_}
 use mathlib.Core.List.{List}
 use Prim.Native.Nat.{ℕ, _-_, _%_, _^_}
-use lib.Dec.{leb, ltb}
+use lib.Dec.{eqb, leb, ltb}
 use lib.ListN.{getD, length}
 use Rattle.std.specs.declared.option.Option.{Option}
 use Rattle.std.specs.declared.option.Option.the-variants.{None, Some}
@@ -18,6 +18,16 @@ abbrev pub shown : Cell → Option ℕ
 shown nothing = None
 shown (free b) = Some (b % 256)
 shown (fixed b) = Some (b % 256)
+
+-- a cell after the byte b was written to it
+abbrev pub stored : Cell → ℕ → Cell
+stored nothing b = nothing
+stored (free _) b = free b
+stored (fixed c) b = fixed c
+
+-- a memory after the byte b was written at a
+abbrev pub written : (ℕ → Cell) → ℕ → ℕ → ℕ → Cell
+written m a b q = cond (eqb q a) (stored (m q) b) (m q)
 
 -- is q one of the n addresses from `base` on, none above the last address?
 abbrev pub within : ℕ → ℕ → ℕ → Bool

@@ -11,3 +11,8 @@ number-of (Fixed a) = 11
 abbrev pub address-of : StoreFault → Address
 address-of (Absent a) = a
 address-of (Fixed a) = a
+
+-- the same refusal at another address
+abbrev pub readdressed : StoreFault → Address → StoreFault
+readdressed (Absent a) b = Absent b
+readdressed (Fixed a) b = Fixed b

@@ -1,3 +1,4 @@
 pub mod Access
 pub mod Cells
 pub mod Faults
+pub mod Layers

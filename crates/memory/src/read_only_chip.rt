@@ -3,6 +3,7 @@ ghost use mathlib.Core.Path.{_≡_};
 ghost use denote.Ref.{now};
 ghost use Rattle.memory.specs.Cells.{chip, fixed};
 use crate::Readable;
+use crate::Store;
 use crate::fault::StoreFault;
 use quantity::Address;
 
@@ -34,5 +35,16 @@ pub impl<'a> Readable for ReadOnlyChip<'a> as ReadOnlyChipReadable {
             }
         }
         Err(StoreFault::Absent(at))
+    }
+}
+
+pub impl<'a> Store for ReadOnlyChip<'a> as ReadOnlyChipStore {
+    fn writable(&self, at: Address) -> Result<(), StoreFault> {
+        self.read(at)?;
+        Err(StoreFault::Fixed(at))
+    }
+
+    fn write(&mut self, at: Address, _byte: u8) -> Result<(), StoreFault> {
+        self.writable(at)
     }
 }
