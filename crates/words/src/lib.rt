@@ -1,0 +1,3 @@
+// The word at an address: four bytes, lowest first, read or written whole.
+pub mod access;
+pub mod fault;
