@@ -27,7 +27,8 @@ impl Chip {
     pub fn into_bytes(self) -> Vec<u8>
         ensures { λ r. ⌜ r ≡ self .bytes ⌝ }
     {
-        self.bytes
+        let Chip { base: _, bytes } = self;
+        bytes
     }
 }
 

@@ -23,7 +23,11 @@ impl<S: Readable> Seal<S> {
         ensures empty { λ _. ⌜ Empty-seal (S·Readable .cells below) ⌝ }
         ensures join { λ _. ⌜ Seals-join (S·Readable .cells below) ⌝ }
     {
-        Seal { base, length, below }
+        Seal {
+            base,
+            length,
+            below,
+        }
     }
 
     // Whether an address lies in the range.
@@ -38,7 +42,8 @@ pub impl<S: Readable> Readable for Seal<S> as SealReadable {
     ghost cells = { λ s. sealed (s .base .0) (s .length) (S·Readable .cells (s .below)) };
 
     fn read(&self, at: Address) -> Result<u8, StoreFault> {
-        self.below.read(at)
+        let memory = &self.below;
+        memory.read(at)
     }
 }
 
@@ -54,10 +59,7 @@ pub impl<S: Store> Store for Seal<S> as SealStore {
 
     fn write(&mut self, at: Address, byte: u8) -> Result<(), StoreFault> {
         if self.covers(at) {
-            match self.below.read(at) {
-                Ok(_) => Err(StoreFault::Fixed(at)),
-                Err(fault) => Err(fault),
-            }
+            self.writable(at)
         } else {
             self.below.write(at, byte)
         }

@@ -1,6 +1,8 @@
 // A bank whose ports are words of a store.
 ghost use mathlib.Core.Path.{_≡_};
+ghost use Prim.Native.Nat.{_*_, _<_};
 ghost use Rattle.ports.specs.Banks.{mapped};
+ghost use Rattle.quantity.specs.Sums.{later};
 use crate::Ports;
 use crate::fault::PortFault;
 use memory::Readable;
@@ -29,14 +31,14 @@ impl<S> Mapped<S> {
     {
         Mapped { count, base, store }
     }
+}
 
-    // The store, given back.
-    pub fn into_store(self) -> S
-        ensures { λ r. ⌜ r ≡ self .store ⌝ }
-    {
-        let Mapped { count: _, base: _, store } = self;
-        store
-    }
+// Where the word of a port lies.
+fn address_of(base: Address, port: Port) -> Address
+    requires { ⌜ port .0 < 256 ⌝ }
+    ensures { λ r. ⌜ r ≡ later base (4 * port .0) ⌝ }
+{
+    base.later(4 * port.0)
 }
 
 pub impl<S: Store> Ports for Mapped<S> as MappedPorts {
@@ -44,9 +46,11 @@ pub impl<S: Store> Ports for Mapped<S> as MappedPorts {
 
     fn get(&self, port: Port) -> Result<Number, PortFault> {
         if port.0 < self.count && port.0 < 256 {
-            let at = self.base.later(4 * port.0);
-            if let (Ok(()), Ok(word)) = (word_writable(&self.store, at), read_word(&self.store, at)) {
-                return Ok(word);
+            let at = address_of(self.base, port);
+            if word_writable(&self.store, at).is_ok() {
+                if let Ok(word) = read_word(&self.store, at) {
+                    return Ok(word);
+                }
             }
         }
         Err(PortFault::Absent(port))
@@ -54,7 +58,7 @@ pub impl<S: Store> Ports for Mapped<S> as MappedPorts {
 
     fn set(&mut self, port: Port, word: Number) -> Result<(), PortFault> {
         if port.0 < self.count && port.0 < 256 {
-            let at = self.base.later(4 * port.0);
+            let at = address_of(self.base, port);
             match write_word(&mut self.store, at, word) {
                 Ok(()) => Ok(()),
                 Err(_) => Err(PortFault::Absent(port)),

@@ -1,5 +1,6 @@
 // A table of the ports 0 to 63.
 ghost use mathlib.Core.Path.{_≡_};
+ghost use lib.Dec.{ltb};
 ghost use lib.ListN.{replicate};
 ghost use Rattle.ports.specs.Banks.{tabled};
 use crate::Ports;
@@ -21,11 +22,18 @@ impl Table {
     }
 }
 
+// Whether the table has this port.
+fn has(port: Port) -> bool
+    ensures { λ r. ⌜ r ≡ ltb (port .0) 64 ⌝ }
+{
+    port.0 < 64
+}
+
 pub impl Ports for Table as TablePorts {
     ghost words = { λ s. tabled (s .words) };
 
     fn get(&self, port: Port) -> Result<Number, PortFault> {
-        if port.0 < 64 {
+        if has(port) {
             Ok(Number(self.words[port.0 as usize]))
         } else {
             Err(PortFault::Absent(port))
@@ -33,7 +41,7 @@ pub impl Ports for Table as TablePorts {
     }
 
     fn set(&mut self, port: Port, word: Number) -> Result<(), PortFault> {
-        if port.0 < 64 {
+        if has(port) {
             self.words[port.0 as usize] = word.0;
             Ok(())
         } else {

@@ -49,7 +49,11 @@ pub fn write_word<S: Store>(store: &mut S, at: Address, word: Number) -> Result<
 
 // Writes a word and reads it back: the answer is the word that was written, or the refusal of the
 // writing.
-pub fn write_word_verified<S: Store>(store: &mut S, at: Address, word: Number) -> Result<Number, WordFault>
+pub fn write_word_verified<S: Store>(
+    store: &mut S,
+    at: Address,
+    word: Number,
+) -> Result<Number, WordFault>
     ensures reads_back { λ r. ⌜ r ≡ word-verified (S·Readable .cells (now (store .entry))) at word ⌝ }
     ensures after { λ _. ⌜ S·Readable .cells (now (store .exit)) ≡ word-written (S·Readable .cells (now (store .entry))) at (word .0) ⌝ }
 {

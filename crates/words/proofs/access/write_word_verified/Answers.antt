@@ -8,7 +8,7 @@ returns g c =
     let narrow : c .args .word .0 < 2 ^ 32 = search needs in
     record {
       reads-back =
-        verifies (g .S·Readable .cells (c .args .store .now)) (g .S·Readable .cells (c .write-word .last .store)) (c .args .at) (c .args .word) (c .read-word .result)
-        narrow (c .in-Continue-write-word .ensures tt .answers) (c .write-word .ensures .after) (c .read-word .ensures .answers);
+          verifies (g .S·Readable .cells (c .args .store .now)) (g .S·Readable .cells (c .write-word .last .store)) (c .args .at) (c .args .word) (c .read-word .result)
+          narrow (c .in-Continue-write-word .ensures tt .answers) (c .write-word .ensures .after) (c .read-word .ensures .answers);
       after = c .write-word .ensures .after;
     }
