@@ -1,4 +1,5 @@
 // Piles of layers at their edges.
+use crate::write_through;
 use codec::reader::Reader;
 use codec::source::Span;
 use codec::source::SpanSource;
@@ -123,4 +124,22 @@ fn instructions_are_read_through_layers(rt: LibcRuntime) -> Result<(), Fail> {
     });
     check(reader.next().is_ok())?;
     check(reader.is_at_end() && reader.place().offset == 4)
+}
+
+#[test]
+fn a_pile_of_four_keeps_what_it_is_given(rt: LibcRuntime) -> Result<(), Fail> {
+    let low = vec![in rt.alloc(); 0u8; 16]?;
+    let high = vec![in rt.alloc(); 0u8; 16]?;
+    let kept = write_through(Address(16), low, high, 8, Address(4), 2, Address(9), 7);
+    let Ok(byte) = kept else {
+        return Err(Fail::new("refused"));
+    };
+    check(byte == 7)?;
+    let low = vec![in rt.alloc(); 0u8; 16]?;
+    let high = vec![in rt.alloc(); 0u8; 16]?;
+    let sealed = write_through(Address(16), low, high, 8, Address(4), 2, Address(5), 7);
+    let Err(fault) = sealed else {
+        return Err(Fail::new("written"));
+    };
+    check(fault.number() == 11 && fault.address().0 == 5)
 }

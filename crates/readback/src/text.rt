@@ -59,7 +59,7 @@ impl fmt::Display for DisplacementText as DisplacementTextDisplay {
 }
 
 // What is wrong with a byte that is refused.
-pub fn meaning(cause: ReadCause) -> &'static str {
+pub(crate) fn meaning(cause: ReadCause) -> &'static str {
     match cause {
         ReadCause::Missing => "the next byte is missing",
         ReadCause::UnknownOperation => "no operation has this byte",
