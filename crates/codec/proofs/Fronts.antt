@@ -20,7 +20,6 @@ use Rattle.cisca.specs.declared.instruction.Instruction.{Instruction}
 use Rattle.operands.specs.declared.operand.Operand.{Operand}
 use Rattle.operands.specs.declared.operand.Operand.the-variants.{Direct, Immediate, Indexed, Indirect, PcRelative, Register, Relative}
 use Rattle.operands.specs.declared.register.Register as reg
-use Rattle.codec.specs.Decoding.{decode}
 use Rattle.codec.specs.Encoding.{bytes, bytes-if, four-bytes, operand-bytes, two-bytes}
 use Rattle.codec.specs.Laws.{Lies, Read-from-front}
 use Rattle.codec.specs.Sources.{listed}

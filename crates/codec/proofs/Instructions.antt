@@ -1,22 +1,22 @@
 -- Instructions as an exact format: the operation byte, then the operands. Assumes nothing.
-use mathlib.Core.Bool.{Bool, _&&_, cond, false, true}
+use mathlib.Core.Bool.{Bool, cond, false, true}
 use mathlib.Core.List.{List, [], _∷_, _++_, append-nil}
 use mathlib.Core.Path.{_≡_, _∙_, ap, refl, subst, sym}
 use native.Mathlib.Omega.{arith}
 use Prim.Native.Nat.{ℕ}
 use lib.Dec.{T, eqb}
-use Rattle.std.proofs.shelf.Tests.{and-from, and-parts, cond-false, cond-true, eqb-true}
+use Rattle.std.proofs.shelf.Tests.{and-from, and-parts, cond-true, eqb-true}
 use Rattle.std.specs.declared.option.Option.{Option}
 use Rattle.std.specs.declared.option.Option.the-variants.{None, Some}
-use Rattle.std.specs.declared.result.Result.the-variants.{Err, Ok}
+use Rattle.std.specs.declared.result.Result.the-variants.{Ok}
 use Rattle.cisca.proofs.Codes.{code-finds, code-found}
 use Rattle.cisca.proofs.Same.{Legal}
 use Rattle.cisca.specs.Legality.{mode-if, pairing}
 use Rattle.cisca.specs.Making.{Parts, assembled, making}
 use Rattle.operands.specs.Modes.{mode}
-use Rattle.operands.specs.Groups.{first-fits, grouped, operand-count, second-fits}
+use Rattle.operands.specs.Groups.{grouped, operand-count}
 use Rattle.cisca.specs.Table.{code, group, operation-of}
-use Rattle.operands.specs.Widths.{all-within, within}
+use Rattle.operands.specs.Widths.{all-within}
 use Rattle.operands.specs.declared.group.Group.{Group}
 use Rattle.operands.specs.declared.group.Group.the-variants.{Bare, Inward, Jump, Outward, Pair, Single, Target}
 use Rattle.operands.specs.declared.operand.Operand.{Operand}
@@ -28,7 +28,6 @@ use Rattle.codec.specs.Encoding.{bytes-if, operand-bytes, part-bytes}
 use Rattle.codec.specs.Faults.{fault}
 use Rattle.codec.specs.Sources.{Bytes, Small}
 use Rattle.codec.specs.declared.fault.ReadCause.the-variants as cause
-use Rattle.codec.specs.declared.fault.ReadFault.{ReadFault}
 use Rattle.codec.proofs.Exact.{Exact, judged, known-ok, mapped, not-both, sequence, settled, un-ok}
 use Rattle.codec.proofs.Operands.{Fitting, known-blames, operand-exact}
 

@@ -21,7 +21,7 @@ use Rattle.codec.specs.declared.fault.ReadCause.the-variants.{Digit, Missing, 
 use Rattle.codec.specs.declared.fault.ReadFault.{ReadFault}
 use Rattle.codec.proofs.Exact.{Bars, not-both, un-ok}
 use Rattle.codec.proofs.Instructions.{decode-exact}
-use Rattle.codec.proofs.Prefixes.{past, past-is}
+use Rattle.codec.proofs.Prefixes.{past-is}
 
 -- a record's bytes read as the record, whatever follows
 pub reads-back : (i : Instruction) (s : Bytes) (p : ℕ) → Lies s p (bytes i) → decode s p ≡ Ok (parts i, p + length (bytes i))

@@ -1,14 +1,14 @@
 -- Operands as an exact format: a mode byte, then the value bytes. Assumes nothing.
-use mathlib.Core.Bool.{Bool, cond, false, true}
-use mathlib.Core.List.{List, [], _∷_, _++_}
+use mathlib.Core.Bool.{Bool, false, true}
+use mathlib.Core.List.{List, [], _∷_}
 use mathlib.Core.Path.{_≡_, _∙_, ap, refl, subst, sym}
 use native.Mathlib.Omega.{arith}
 use Prim.Native.Nat.{ℕ, _*_, _+_, _/_, _%_, _-_, _<_, _^_, suc}
-use lib.Dec.{T, eqb, lt→ltb, ltb, ltb→lt}
+use lib.Dec.{T, lt→ltb, ltb, ltb→lt}
 use lib.IntN.{ℤ, negsuc, pos}
 use mir.Syntax.{w16}
 use mir.Val.{SFits, ofZ, sel, toZ}
-use Rattle.std.proofs.shelf.Bits.{div-mul-add, mod-below, mod-mul-add}
+use Rattle.std.proofs.shelf.Bits.{div-mul-add, mod-mul-add}
 use Rattle.std.proofs.shelf.Signed.{ofZ-toZ, toZ-ofZ}
 use Rattle.std.proofs.shelf.Tests.{eqb-true, ltb-false}
 use Rattle.std.specs.declared.option.Option.{Option}
@@ -17,7 +17,7 @@ use Rattle.std.specs.declared.result.Result.{Result}
 use Rattle.std.specs.declared.result.Result.the-variants.{Err, Ok}
 use Rattle.operands.proofs.Modes.{mode-found, number-finds}
 use Rattle.operands.proofs.Same.{same-register}
-use Rattle.operands.specs.Modes.{mode, mode-number, mode-of, unregistered}
+use Rattle.operands.specs.Modes.{mode, mode-number, mode-of}
 use Rattle.operands.specs.Widths.{short, within}
 use Rattle.operands.specs.declared.mode.Mode.{Mode}
 use Rattle.operands.specs.declared.mode.Mode.the-variants as m
@@ -25,7 +25,7 @@ use Rattle.operands.specs.declared.operand.Operand.{Operand}
 use Rattle.operands.specs.declared.operand.Operand.the-variants.{Direct, Immediate, Indexed, Indirect, PcRelative, Register, Relative}
 use Rattle.operands.specs.declared.register.Register as reg
 use Rattle.codec.specs.Decoding.{Read, address, after, clean, displacement, four-at, judged-at, judged-mode, known, number, operand-at, provided, register-of, two-at, valued-at}
-use Rattle.codec.specs.Encoding.{digit, four-bytes, mode-byte, operand-bytes, two-bytes, value-bytes}
+use Rattle.codec.specs.Encoding.{digit, four-bytes, operand-bytes, two-bytes, value-bytes}
 use Rattle.codec.specs.Faults.{fault}
 use Rattle.codec.specs.Sources.{Bytes}
 use Rattle.codec.specs.declared.decode.ModeByte.{ModeByte}

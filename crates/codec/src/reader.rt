@@ -1,6 +1,5 @@
 // A reader that moves over a source, and a look ahead that puts its place back.
 ghost use mathlib.Core.Path.{_≡_};
-ghost use Prim.Native.Nat.{ℕ};
 ghost use Rattle.codec.specs.Laws.{Reads-back, Stops-at-first-fault, Writes-back};
 ghost use Rattle.codec.specs.Readers.{answer, ended, place-after, read};
 use crate::decode::instruction_at;

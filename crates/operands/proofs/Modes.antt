@@ -1,5 +1,4 @@
 -- A mode is told by its number. Assumes nothing.
-use mathlib.Core.Bool.{cond}
 use mathlib.Core.List.{List, [], _∷_}
 use mathlib.Core.Logic.{inl, inr}
 use mathlib.Core.Path.{_≡_, _∙_, ap, refl, sym}
@@ -8,7 +7,7 @@ use Prim.Native.Nat.{ℕ}
 use lib.Dec.{eqb}
 use Rattle.std.proofs.shelf.Tests.{cases-bool, cond-false, cond-true, eqb-true}
 use Rattle.std.specs.declared.option.Option.{Option}
-use Rattle.std.specs.declared.option.Option.the-variants.{None, Some}
+use Rattle.std.specs.declared.option.Option.the-variants.{Some}
 use Rattle.operands.specs.Modes.{mode-among, mode-number, mode-of, modes}
 use Rattle.operands.specs.declared.mode.Mode.{Mode}
 use Rattle.operands.specs.declared.mode.Mode.the-variants as m

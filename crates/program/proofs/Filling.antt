@@ -1,14 +1,13 @@
 -- The filling of a list with the records of a program. Assumes nothing.
 use mathlib.Core.List.{List, [], _∷_, _++_, append-assoc, append-nil, map}
-use mathlib.Core.Path.{_≡_, _∙_, ap, refl, subst, sym}
+use mathlib.Core.Path.{_≡_, _∙_, ap, refl, sym}
 use native.Mathlib.Omega.{arith}
 use Prim.Native.Nat.{ℕ, _+_, _-_, _<_, _≤_, suc, zero}
-use lib.ListN.{drop, getD, length, length-append, set}
+use lib.ListN.{drop, getD, length, set}
 use Rattle.std.proofs.shelf.Lists.{drop-map, drop-more, length-map, length-push, map-append, map-push, nil-from-length, set-at}
 use Rattle.std.proofs.shelf.Tests.{cond-false, cond-true, le-ltb, lt-ltb}
 use Rattle.std.specs.declared.option.Option.{Option}
 use Rattle.std.specs.declared.option.Option.the-variants.{None, Some}
-use Rattle.std.specs.declared.result.Result.{Result}
 use Rattle.std.specs.declared.result.Result.the-variants.{Err, Ok}
 use Rattle.cisca.specs.Making.{Parts, parts}
 use Rattle.cisca.specs.declared.instruction.Instruction.{Instruction}
@@ -16,12 +15,12 @@ use Rattle.codec.proofs.Exact.{not-both, un-err, un-ok}
 use Rattle.codec.proofs.Laws.{next-err, next-ok}
 use Rattle.codec.specs.Decoding.{decode}
 use Rattle.codec.specs.Readers.{answer, place-after, read}
-use Rattle.codec.specs.Sources.{Bytes, Small}
+use Rattle.codec.specs.Sources.{Bytes}
 use Rattle.codec.specs.declared.fault.ReadFault.{ReadFault}
 use Rattle.program.specs.Programs.{Records, counted, filled, filling, read-from, whole}
 use Rattle.program.specs.declared.fault.ProgramFault.the-variants as fault
 use Rattle.program.proofs.Laws.{behind-ok}
-use Rattle.program.proofs.Reading.{moves-on, read-end, read-on}
+use Rattle.program.proofs.Reading.{read-end, read-on}
 
 -- a list is half filled: `done` stands in its front, and `rest` is to come
 pub record Filling (s : Bytes) (end : ℕ) (old new : List Instruction) (at k n : ℕ) : Type 0 where

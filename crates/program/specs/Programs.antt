@@ -1,6 +1,6 @@
 -- A whole program: its bytes, and its reading. Assumes nothing.
 use mathlib.Core.Bool.{cond}
-use mathlib.Core.List.{List, [], _∷_, _++_, map}
+use mathlib.Core.List.{List, [], _∷_, _++_}
 use Prim.Native.Nat.{ℕ, suc, zero}
 use lib.Dec.{ltb}
 use lib.ListN.{drop, length}

@@ -1,5 +1,4 @@
 // A whole program into the caller's buffer, after a first run that only measures.
-ghost use mathlib.Core.List.{map};
 ghost use mathlib.Core.Path.{_≡_};
 ghost use Prim.Native.Nat.{_-_, _≤_};
 ghost use lib.Dec.{ltb};

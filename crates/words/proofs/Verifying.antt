@@ -7,7 +7,7 @@ use Rattle.std.proofs.shelf.Tests.{cond-true}
 use Rattle.std.proofs.shelf.Ways.{tells}
 use Rattle.std.specs.Results.{isOk}
 use Rattle.std.specs.declared.result.Result.{Result}
-use Rattle.std.specs.declared.result.Result.the-variants.{Err, Ok}
+use Rattle.std.specs.declared.result.Result.the-variants.{Ok}
 use Rattle.memory.specs.Cells.{Cell}
 use Rattle.quantity.specs.declared.Address.{Address}
 use Rattle.quantity.specs.declared.Number.{Number}

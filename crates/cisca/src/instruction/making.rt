@@ -1,6 +1,5 @@
 // Making a record, and taking it apart.
 ghost use mathlib.Core.Path.{_≡_};
-ghost use Prim.Native.Nat.{_≤_};
 ghost use lib.ListN.{length};
 ghost use Rattle.cisca.specs.Legality.{pairing};
 ghost use Rattle.cisca.specs.Making.{made, making, number-of};

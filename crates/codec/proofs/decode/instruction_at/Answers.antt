@@ -1,9 +1,8 @@
-use mathlib.Core.Path.{_≡_, _∙_, ap, sym}
+use mathlib.Core.Path.{_≡_, _∙_, ap}
 use native.Mathlib.Omega.{arith}
 use Prim.Native.Nat.{ℕ}
-use Rattle.std.specs.declared.result.Result.the-variants.{Err, Ok}
-use Rattle.cisca.specs.Making.{Parts, assembled, making, parts}
-use Rattle.cisca.specs.declared.instruction.making.MakingFault.{MakingFault}
+use Rattle.std.specs.declared.result.Result.the-variants.{Ok}
+use Rattle.cisca.specs.Making.{Parts, assembled, parts}
 use Rattle.codec.proofs.Instructions.{decode-then, read-made}
 use Rattle.codec.proofs.decode.instruction_at.Needs as need
 

@@ -3,12 +3,12 @@ use native.Mathlib.Omega.{arith}
 use Prim.Native.Nat.{ℕ, _<_}
 use borrow.Author.Needs.{needs}
 use Rattle.std.specs.declared.option.Option.the-variants.{Some}
-use Rattle.std.specs.declared.result.Result.the-variants.{Err, Ok}
+use Rattle.std.specs.declared.result.Result.the-variants.{Ok}
 use Rattle.cisca.specs.Making.{parts}
 use Rattle.codec.proofs.Laws.{next-err, next-ok}
 use Rattle.codec.specs.Decoding.{decode}
 use Rattle.program.specs.Programs.{counted}
-use Rattle.program.proofs.Reading.{Counting, before-end, byte-gone, byte-there, counting-all, counting-more, counting-refused, moves-on}
+use Rattle.program.proofs.Reading.{before-end, byte-gone, byte-there, counting-all, counting-more, counting-refused, moves-on}
 use Rattle.program.proofs.read.count.Given as given
 use Rattle.program.proofs.read.count.Needs as need
 
