@@ -1,5 +1,7 @@
 // The arithmetic and logic of the CISCA machine: each operation from words and status to words and
 // status.
+#![tactic(auto)]
+
 pub mod division;
 mod logic;
 pub mod operation;

@@ -1,4 +1,6 @@
 // Worked encodings: some proved of the definitions, all run through the code.
+#![tactic(auto)]
+
 ghost use Rattle.std.specs.Prelude.{◌≡◌, length};
 ghost use Rattle.encodings.specs.Examples.{All, BackwardJump, Worked, examples};
 

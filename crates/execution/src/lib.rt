@@ -1,4 +1,6 @@
 // What one instruction does, found by reading alone: an effect, or the fault that comes first.
+#![tactic(auto)]
+
 mod addressing;
 mod commands;
 mod interrupts;

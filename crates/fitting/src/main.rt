@@ -1,5 +1,7 @@
 // Fits the memory of a box: builds a pile of layers with a bank of ports on it, and shows what it
 // takes and what it refuses.
+#![tactic(auto)]
+
 use memory::bus::Bus;
 use memory::chip::Chip;
 use memory::seal::Seal;

@@ -1,4 +1,6 @@
 // Effects made true and taken back: what is changed, with what stood there before.
+#![tactic(auto)]
+
 pub mod commit;
 pub mod entry;
 pub mod journaled;

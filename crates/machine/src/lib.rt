@@ -1,3 +1,5 @@
 // The machine: a processor over any store and any bank of ports, with a program and a journal.
+#![tactic(auto)]
+
 pub mod fault;
 pub mod machine;

@@ -1,4 +1,6 @@
 // Memory by layers: what a readable memory and a store mean, and the layers that they are built of.
+#![tactic(auto)]
+
 ghost use Rattle.std.specs.Prelude.{◌≡◌, ℕ};
 ghost use Rattle.memory.specs.Access.{reading, writing};
 ghost use Rattle.memory.specs.Cells.{Cell, written};

@@ -1,4 +1,6 @@
 // Operands of the CISCA machine: registers, modes, and which modes go together.
+#![tactic(auto)]
+
 pub mod group;
 pub mod mode;
 pub mod operand;

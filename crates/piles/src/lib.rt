@@ -1,4 +1,6 @@
 // Layers piled up: a seal over a window over a bus of two chips.
+#![tactic(auto)]
+
 ghost use Rattle.std.specs.Prelude.{◌≡◌};
 ghost use Rattle.memory.specs.Access.{verified};
 ghost use Rattle.memory.specs.Cells.{chip, free};

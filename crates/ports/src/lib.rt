@@ -1,4 +1,6 @@
 // Port banks: for each port number, a word or nothing.
+#![tactic(auto)]
+
 ghost use Rattle.std.specs.Prelude.{◌≡◌, ℕ, Option};
 ghost use Rattle.ports.specs.Banks.{getting, replaced, setting};
 

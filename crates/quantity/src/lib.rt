@@ -1,5 +1,7 @@
 // The four quantities of the machine. Each has a type of its own, so that a port never enters a
 // call on memory, and a number is never taken for an address.
+#![tactic(auto)]
+
 ghost use Rattle.std.specs.Prelude.{◌≡◌};
 ghost use Rattle.quantity.specs.Sums.{displaced, later};
 

@@ -1,5 +1,7 @@
 // Reads a program's bytes from standard input, prints each instruction with its place and its
 // bytes, writes the program back, and says whether the bytes are the same.
+#![tactic(auto)]
+
 use anyhow::anyhow;
 use cisca::instruction::Instruction;
 use cisca::operation::Operation;

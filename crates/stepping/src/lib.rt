@@ -1,4 +1,6 @@
 // One instruction done: planned, and then committed.
+#![tactic(auto)]
+
 ghost use Rattle.std.specs.Prelude.{◌≡◌, IfOk, OnOk};
 ghost use Rattle.actions.specs.Actions.{action};
 ghost use Rattle.cisca.specs.Making.{parts};
