@@ -1,9 +1,10 @@
 // The operations, with their bytes, mnemonics and operand groups: one table.
-ghost use Rattle.std.specs.Prelude.{◌≡◌, Decides};
+ghost use Rattle.std.specs.Prelude.{◌≡◌, ◌==◌, Decides};
 ghost use Rattle.cisca.specs.Table.{code, group, letters, operation_of, row_of_code, all_rows};
 ghost use Rattle.std.specs.Cmp.Rules.{comparing};
 ghost use Rattle.std.proofs.Common.{rules};
-ghost use Rattle.std.specs.Cmp as Keys;
+ghost use Rattle.std.specs.Cmp.{partial_equiv_from_equiv};
+ghost use Rattle.std.specs.Ordering.{on};
 
 use operands::group::Group;
 
@@ -300,11 +301,14 @@ fn table() -> &'static [Row; 34]
 
 // Two operations are the same exactly where their bytes are.
 impl PartialEq for Operation {
-    ghost equals = { λ x y r. Decides r (x ≡ y) };
+    ghost eq = { on code ◌==◌ };
 
-    ghost laws = { Keys.partial_equiv_from_equiv (Prim.search (comparing, rules)) };
+    ghost laws = { partial_equiv_from_equiv (Prim.search (comparing, rules)) };
 
-    fn eq(&self, other: &Operation) -> bool {
+    fn eq(&self, other: &Operation) -> bool
+        ensures bytes { result ≡ (code self.now == code other.now) }
+        ensures same { Decides result (self.now ≡ other.now) }
+    {
         self.code() == other.code()
     }
 }

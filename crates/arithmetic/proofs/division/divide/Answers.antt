@@ -11,8 +11,8 @@ returns c =
     record {
       result = search rules;
       divides =
-          parts (signed c.args.a.0) c.args.b.0 c.quotient-word-whole.result c.remainder-word-rest.result c.follow-after.result.overflow
-          above narrow c.quotient-word-whole.ensures c.remainder-word-rest.ensures
-          (ap (λ (t : Status). t.overflow) c.follow-after.ensures ∙ c.quotient-overflows.ensures);
+          parts (signed c.args.a.0) c.args.b.0 c.quotient_word-whole.result c.remainder_word-rest.result c.follow-after.result.overflow
+          above narrow c.quotient_word-whole.ensures c.remainder_word-rest.ensures
+          (ap (λ (t : Status). t.overflow) c.follow-after.ensures ∙ c.quotient_overflows.ensures);
       marks = (tt, tt, tt, tt, ap (λ (t : Status). t.enabled) c.follow-after.ensures);
     }

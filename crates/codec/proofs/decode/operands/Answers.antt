@@ -5,5 +5,5 @@ use Rattle.codec.proofs.decode.operands.Goals as goal
 
 pub returns : goal.returns
 returns g c =
-    c.operands-in.ensures
+    c.operands_in.ensures
     ∙ ap (λ (h : Group). operands_at h (g.S.Source.shows c.args.source.now) c.args.at) c.group.ensures

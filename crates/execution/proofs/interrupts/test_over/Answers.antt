@@ -6,4 +6,4 @@ use Rattle.execution.proofs.interrupts.test_over.Goals as goal
 
 pub returns : goal.returns
 returns g c =
-    c.test-stack.ensures ∙ sym (ap (blamed by_stack) (stored_marked c.args.write (g.S.Readable.cells c.args.store.now) c.args.at))
+    c.test_stack.ensures ∙ sym (ap (blamed by_stack) (stored_marked c.args.write (g.S.Readable.cells c.args.store.now) c.args.at))

@@ -12,15 +12,15 @@ returns-in-Load g c =
     let a = c.in-Load.at in
     record {
       answers =
-          c.said.ensures ∙ ap said c.load.ensures.answers ∙ ap (λ l. said (load_said a l s)) c.as-slice.ensures.value
+          c.said.ensures ∙ ap said c.load.ensures.answers ∙ ap (λ l. said (load_said a l s)) c.as_slice.ensures.value
           ∙ sym (ap (λ k. answered cisca (call_of k) s) c.in-Load.is);
-      after = c.load.ensures.after ∙ ap (λ l. load_made a l s) c.as-slice.ensures.value ∙ sym (ap (λ k. after cisca (call_of k) s) c.in-Load.is);
+      after = c.load.ensures.after ∙ ap (λ l. load_made a l s) c.as_slice.ensures.value ∙ sym (ap (λ k. after cisca (call_of k) s) c.in-Load.is);
     }
 
 pub returns-in-SetWord : goal.returns-in-SetWord
 returns-in-SetWord g c =
     let s = state_of g.S.Readable.cells g.P.Ports.words c.args.machine.now in
     record {
-      answers = c.said-in-SetWord.ensures ∙ ap said c.set-word.ensures.answers ∙ sym (ap (λ k. answered cisca (call_of k) s) c.in-SetWord.is);
-      after = c.set-word.ensures.after ∙ sym (ap (λ k. after cisca (call_of k) s) c.in-SetWord.is);
+      answers = c.said-in-SetWord.ensures ∙ ap said c.set_word.ensures.answers ∙ sym (ap (λ k. answered cisca (call_of k) s) c.in-SetWord.is);
+      after = c.set_word.ensures.after ∙ sym (ap (λ k. after cisca (call_of k) s) c.in-SetWord.is);
     }

@@ -7,8 +7,8 @@ use Rattle.loading.proofs.laying.lay.Goals as goal
 pub loop-byte-preserved : goal.loop-byte-preserved
 loop-byte-preserved g c =
     let e = byte_next (g.S.Readable.cells c.loop-byte.store) c.loop-byte.next c.args.source.now c.loop-byte.byte-index c.loop-byte-test.true in
-    let w = c.lay-byte-next.ensures.after in
-    let p = c.lay-byte-next.ensures.behind in
+    let w = c.lay_byte-next.ensures.after in
+    let p = c.lay_byte-next.ensures.behind in
     cc
 
 pub returns : goal.returns

@@ -6,7 +6,7 @@ use Rattle.loading.proofs.laying.lay_instruction.Goals as goal
 pub returns : goal.returns
 returns g c = record {
   after =
-      record_laid c.args.instruction.now c.write.new.out (g.S.Readable.cells c.args.store.now) (g.S.Readable.cells c.lay.new.store) c.args.at c.encoded-length-size.result
-      c.encoded-length-size.ensures.value c.encoded-length-size.ensures.bound c.write.ensures.after c.lay.ensures;
-  behind = c.later.ensures ∙ ap (later c.args.at) c.encoded-length-size.ensures.value;
+      record_laid c.args.instruction.now c.write.new.out (g.S.Readable.cells c.args.store.now) (g.S.Readable.cells c.lay.new.store) c.args.at c.encoded_length-size.result
+      c.encoded_length-size.ensures.value c.encoded_length-size.ensures.bound c.write.ensures.after c.lay.ensures;
+  behind = c.later.ensures ∙ ap (later c.args.at) c.encoded_length-size.ensures.value;
 }

@@ -9,8 +9,8 @@ use Rattle.loading.proofs.laying.lay_program.Goals as goal
 pub loop-instruction-preserved : goal.loop-instruction-preserved
 loop-instruction-preserved g c =
     laid_more c.args.program.now c.loop-instruction.instruction-index c.instruction-item.result
-    (g.S.Readable.cells c.loop-instruction.store) (g.S.Readable.cells c.lay-instruction-next.new.store) c.loop-instruction.next c.lay-instruction-next.result
-    c.loop-instruction-test.true c.instruction-item.is c.lay-instruction-next.ensures.after c.lay-instruction-next.ensures.behind
+    (g.S.Readable.cells c.loop-instruction.store) (g.S.Readable.cells c.lay_instruction-next.new.store) c.loop-instruction.next c.lay_instruction-next.result
+    c.loop-instruction-test.true c.instruction-item.is c.lay_instruction-next.ensures.after c.lay_instruction-next.ensures.behind
     ∙ c.loop-instruction.invariant
 
 pub returns : goal.returns

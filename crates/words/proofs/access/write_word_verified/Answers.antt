@@ -7,7 +7,7 @@ returns g c =
     let narrow : c.args.word.0 < 2 ^ 32 = search rules in
     record {
       reads_back =
-          verifies (g.S.Readable.cells c.args.store.now) (g.S.Readable.cells c.write-word.new.store) c.args.at c.args.word c.read-word.result
-          narrow c.in-ok-write-word.ensures.answers c.write-word.ensures.after c.read-word.ensures.answers;
-      after = c.write-word.ensures.after;
+          verifies (g.S.Readable.cells c.args.store.now) (g.S.Readable.cells c.write_word.new.store) c.args.at c.args.word c.read_word.result
+          narrow c.in_ok-write_word.ensures.answers c.write_word.ensures.after c.read_word.ensures.answers;
+      after = c.write_word.ensures.after;
     }

@@ -6,6 +6,6 @@ use Rattle.arithmetic.specs.StatusWord.{unpacked}
 
 pub returns : goal.returns
 returns c = record {
-  word = ap number c.sum-of-weights.ensures;
-  restores = ap (λ n. unpacked (number n)) c.sum-of-weights.ensures ∙ restored c.args.self;
+  word = ap number c.sum_of_weights.ensures;
+  restores = ap (λ n. unpacked (number n)) c.sum_of_weights.ensures ∙ restored c.args.self;
 }

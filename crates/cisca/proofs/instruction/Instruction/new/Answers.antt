@@ -1,5 +1,5 @@
 use Rattle.std.proofs.Common.{T, sym, ◌∙◌, subst, rules}
 use Rattle.cisca.proofs.instruction.Instruction.new.Goals as goal
 
-pub invariant-of-result : goal.invariant-of-result
-invariant-of-result c = (subst T (sym (sym c.is-legal.ensures ∙ c.if-is-legal.true)) tt, (search rules, (search rules, tt)))
+pub invariant_of-result : goal.invariant_of-result
+invariant_of-result c = (subst T (sym (sym c.is_legal.ensures ∙ c.if-is_legal.true)) tt, (search rules, (search rules, tt)))

@@ -7,5 +7,5 @@ use Rattle.execution.proofs.pending.PendingReadable.read.Goals as goal
 pub returns : goal.returns
 returns g c =
     let s = c.args.self.now in
-    c.byte-through.ensures
+    c.byte_through.ensures
     ∙ sym (ap (λ (x : Cell). reading x c.args.at) (both_cover s.change.second s.change.first (g.S.Readable.cells s.below.now) c.args.at.0))

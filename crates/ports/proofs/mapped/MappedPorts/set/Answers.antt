@@ -8,10 +8,10 @@ returns-in-Ok g c =
     let h = c.in-Ok.ensures in
     let s = c.args.self.now in
     let m = g.S.Readable.cells s.store in
-    let m' = g.S.Readable.cells c.write-word.new.store in
+    let m' = g.S.Readable.cells c.write_word.new.store in
     record {
-      answers = rooms.port_taken m m' s.base c.address-of-at.result c.args.port.0 c.args.word.0 s.count c.if-port-lt256.true c.if-port-self.true c.address-of-at.ensures h.after c.args.port h.answers;
-      after = rooms.port_set m m' s.base c.address-of-at.result c.args.port.0 c.args.word.0 s.count c.if-port-lt256.true c.if-port-self.true c.address-of-at.ensures h.after h.answers (omega arith);
+      answers = rooms.port_taken m m' s.base c.address_of-at.result c.args.port.0 c.args.word.0 s.count c.if-port-lt256.true c.if-port-self.true c.address_of-at.ensures h.after c.args.port h.answers;
+      after = rooms.port_set m m' s.base c.address_of-at.result c.args.port.0 c.args.word.0 s.count c.if-port-lt256.true c.if-port-self.true c.address_of-at.ensures h.after h.answers (omega arith);
     }
 
 pub returns-in-Err : goal.returns-in-Err
@@ -19,9 +19,9 @@ returns-in-Err g c =
     let h = c.in-Err.ensures in
     let s = c.args.self.now in
     let m = g.S.Readable.cells s.store in
-    let m' = g.S.Readable.cells c.write-word.new.store in
+    let m' = g.S.Readable.cells c.write_word.new.store in
     let f = c.in-Err.field-0 in
     record {
-      answers = sym (ap (λ o. setting o c.args.port) (rooms.port_none m m' s.base c.address-of-at.result c.args.port.0 c.args.word.0 s.count c.if-port-lt256.true c.if-port-self.true c.address-of-at.ensures h.after f h.answers));
-      after = rooms.port_stays m m' s.base c.address-of-at.result c.args.port.0 c.args.word.0 s.count c.if-port-lt256.true c.if-port-self.true c.address-of-at.ensures h.after f h.answers;
+      answers = sym (ap (λ o. setting o c.args.port) (rooms.port_none m m' s.base c.address_of-at.result c.args.port.0 c.args.word.0 s.count c.if-port-lt256.true c.if-port-self.true c.address_of-at.ensures h.after f h.answers));
+      after = rooms.port_stays m m' s.base c.address_of-at.result c.args.port.0 c.args.word.0 s.count c.if-port-lt256.true c.if-port-self.true c.address_of-at.ensures h.after f h.answers;
     }
