@@ -2,7 +2,7 @@
 use Rattle.std.proofs.Common.{◌≡◌, ℕ, ◌+◌, ◌/◌, ◌%◌, ◌<◌, ltb, List, [], ◌∷◌, ◌++◌, length, get_or, Some, None, Ok, Option, refl, ap, ◌∙◌, subst, append_assoc, mod-eq_of_lt, arith, ltb→lt, length-append, w16, of_z}
 use Rattle.std.proofs.lemmas.Nat.{mod_below}
 use Rattle.std.proofs.lemmas.List.{get_or_at, length_push}
-use Rattle.std.proofs.lemmas.Bool.{cond-true, lt_ltb}
+use Rattle.std.proofs.lemmas.Bool.{cond-true, lt-ltb}
 use Rattle.cisca.proofs.Codes.{code_small}
 use Rattle.cisca.specs.Making.{parts}
 use Rattle.cisca.specs.declared.instruction.Instruction.{Instruction}
@@ -31,7 +31,7 @@ lies_listed pre (b ∷ bs) t p e h =
     let within : p < length l = omega (arith, length-append pre (b ∷ (bs ++ t))) in
     let value : get_or l p 0 % 256 ≡ b = ap (λ (x : ℕ). x % 256) (get_or_at pre b (bs ++ t) 0 p e) ∙ mod-eq_of_lt h.0 in
     let move : (pre ++ b ∷ []) ++ (bs ++ t) ≡ l = append_assoc pre (b ∷ []) (bs ++ t) in (
-      cond-true _ _ _ (lt_ltb p (length l) within) ∙ ap Some value,
+      cond-true _ _ _ (lt-ltb p (length l) within) ∙ ap Some value,
       subst (λ (l : List ℕ). Lies (listed l) (p + 1) bs) move (lies_listed (pre ++ b ∷ []) bs t (p + 1) (length_push pre b ∙ ap (λ (n : ℕ). n + 1) e) h.1),
     )
 

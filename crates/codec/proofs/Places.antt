@@ -1,7 +1,7 @@
 -- Bytes put into a list. Assumes nothing.
 use Rattle.std.proofs.Common.{◌≡◌, ℕ, suc, ◌+◌, ◌<◌, ◌≤◌, List, [], ◌∷◌, ◌++◌, length, get_or, drop, set, Ok, Err, sym, refl, ap, ◌∙◌, add_assoc, arith}
 use Rattle.std.proofs.lemmas.List.{at_drop_all, at_drop_more}
-use Rattle.std.proofs.lemmas.Bool.{cond-false, cond-true, le-ltb, lt_ltb}
+use Rattle.std.proofs.lemmas.Bool.{cond-false, cond-true, le-ltb, lt-ltb}
 use Rattle.codec.specs.declared.fault.WriteFault.TheVariants.{Short}
 use Rattle.codec.specs.Writing.{overlaid, placed, written}
 
@@ -34,10 +34,10 @@ overlays l b xs ys l₁ l₂ at e f g room =
 
 -- what a buffer that is too short answers and holds
 pub short_answers : (n room : ℕ) (bs : List ℕ) → n ≡ length bs → room < n → Err Short ≡ written bs room
-short_answers n room bs e h = sym (cond-true _ _ _ (lt_ltb room (length bs) (omega arith)))
+short_answers n room bs e h = sym (cond-true _ _ _ (lt-ltb room (length bs) (omega arith)))
 
 pub short_stays : (n : ℕ) (old bs : List ℕ) → n ≡ length bs → length old < n → old ≡ overlaid bs old
-short_stays n old bs e h = sym (cond-true _ _ _ (lt_ltb (length old) (length bs) (omega arith)))
+short_stays n old bs e h = sym (cond-true _ _ _ (lt-ltb (length old) (length bs) (omega arith)))
 
 -- what one that is long enough answers
 pub fits : (n room : ℕ) (bs : List ℕ) → n ≡ length bs → n ≤ room → Ok n ≡ written bs room

@@ -11,7 +11,7 @@ pub mod calls;
 // The journal has an entry for each effect recorded and not taken back, and room for 256. Its memory
 // is taken when it is made.
 #[derive(Drop)]
-pub struct Journaled<M: Store, P: Ports> {
+pub struct Journaled<M, P> {
     pub memory: M,
     pub ports: P,
     pub processor: Processor,

@@ -1,6 +1,6 @@
 -- The range that bytes were laid to, and the reading of it. Assumes nothing.
 use Rattle.std.proofs.Common.{◌≡◌, ℕ, zero, suc, ◌+◌, ◌-◌, ◌%◌, ◌^◌, ◌<◌, ◌≤◌, Bool, true, false, cond, eqb, ltb, List, [], ◌∷◌, length, get_or, Some, Ok, Result, sym, refl, ap, ◌∙◌, arith}
-use Rattle.std.proofs.lemmas.Bool.{cond-false, cond-true, eqb-false, eqb-true, lt_ltb, ltb-false, ltb-true}
+use Rattle.std.proofs.lemmas.Bool.{cond-false, cond-true, eqb-false, eqb-true, lt-ltb, ltb-false, ltb-true}
 use Rattle.std.proofs.lemmas.Bool.Decides.{nat_tests}
 use Rattle.cisca.specs.declared.instruction.Instruction.{Instruction}
 use Rattle.codec.proofs.Fronts.{AllSmall}
@@ -121,7 +121,7 @@ module _ (xs : List ℕ) (m : ℕ → Cell) (a : Address) (l : a.0 + length xs �
       let n : (later a k).0 ≡ a.0 + k = omega arith in
       let b : get_or xs k 0 % 256 ≡ get_or xs k 0 = let s = small_at xs small k h in omega arith in
       ap (memory_span m a (length xs)) z
-      ∙ cond-true _ _ _ (lt_ltb k (length xs) h)
+      ∙ cond-true _ _ _ (lt-ltb k (length xs) h)
       ∙ ap (λ (q : ℕ). shown (m q)) n
       ∙ ap shown (f k h)
       ∙ ap (λ (c : ℕ). Some c) b

@@ -22,7 +22,7 @@ pub mod undoing;
 // program's bytes from then on. The layout has the record at each offset from the base, the address
 // of the program's first byte. All the memory that it needs is taken when it is made.
 #[derive(Drop)]
-pub struct Machine<S: Store, P: Ports> {
+pub struct Machine<S, P> {
     system: Journaled<Seal<AddressSpace<S>>, PortSpace<P>>,
     base: Address,
     layout: Layout,

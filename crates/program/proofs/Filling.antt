@@ -1,7 +1,7 @@
 -- The filling of a list with the records of a program. Assumes nothing.
 use Rattle.std.proofs.Common.{◌≡◌, ℕ, zero, suc, ◌+◌, ◌-◌, ◌<◌, ◌≤◌, List, [], ◌∷◌, ◌++◌, map, length, get_or, drop, set, Some, None, Ok, Err, Option, sym, refl, ap, ◌∙◌, append_assoc, append-nil, arith}
 use Rattle.std.proofs.lemmas.List.{drop-map, drop_more, length-map, length_push, map-append, map_push, nil_from_length, set_at}
-use Rattle.std.proofs.lemmas.Bool.{cond-false, cond-true, le-ltb, lt_ltb}
+use Rattle.std.proofs.lemmas.Bool.{cond-false, cond-true, le-ltb, lt-ltb}
 use Rattle.cisca.specs.Making.{Parts, parts}
 use Rattle.cisca.specs.declared.instruction.Instruction.{Instruction}
 use Rattle.codec.proofs.Exact.{not_both, un_err, un_ok}
@@ -115,13 +115,13 @@ module _ (s : Bytes) (end n : ℕ) (old : List Instruction) (c : Ok n ≡ counte
   pub short_answers : Err fault.Short ≡ filling (whole s end) (length old)
   short_answers =
       let r = counted_ok (whole s end) n c in
-      sym (cond-true _ _ _ (lt_ltb (length old) (length r.0) (let z = r.2 in omega arith))) ∙ ap (λ (r : Records). filling r (length old)) (sym r.1)
+      sym (cond-true _ _ _ (lt-ltb (length old) (length r.0) (let z = r.2 in omega arith))) ∙ ap (λ (r : Records). filling r (length old)) (sym r.1)
 
   pub short_stays : map parts old ≡ filled (whole s end) (map parts old)
   short_stays =
       let r = counted_ok (whole s end) n c in
       let l = length-map old parts in
-      sym (cond-true _ _ _ (lt_ltb (length (map parts old)) (length r.0) (let z = r.2 in omega arith))) ∙ ap (λ (r : Records). filled r (map parts old)) (sym r.1)
+      sym (cond-true _ _ _ (lt-ltb (length (map parts old)) (length r.0) (let z = r.2 in omega arith))) ∙ ap (λ (r : Records). filled r (map parts old)) (sym r.1)
 
 -- a program that is refused
 counted_err : (r : Records) (f : ReadFault) → Err f ≡ counted r → r ≡ Err f

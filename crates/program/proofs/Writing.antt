@@ -2,7 +2,7 @@
 use Rattle.std.proofs.Common.{◌≡◌, ℕ, ◌+◌, ◌-◌, ◌<◌, ◌≤◌, ltb, List, [], ◌++◌, length, get_or, take, drop, Ok, Err, sym, refl, ap, ◌∙◌, inl, inr, append_assoc, append-nil, arith, length-append, length-drop}
 use borrow.Rule.Slice.PartMut.{put_mid}
 use Rattle.std.proofs.lemmas.List.{at_drop_all, at_drop_more, drop_all, drop_at, drop-drop, take_all, take_at}
-use Rattle.std.proofs.lemmas.Bool.{cases_Bool, cond-false, cond-true, le-ltb, lt_ltb, ltb-false, ltb-true}
+use Rattle.std.proofs.lemmas.Bool.{cases_Bool, cond-false, cond-true, le-ltb, lt-ltb, ltb-false, ltb-true}
 use Rattle.cisca.specs.declared.instruction.Instruction.{Instruction}
 use Rattle.codec.specs.Encoding.{bytes}
 use Rattle.codec.specs.Writing.{overlaid, written}
@@ -33,7 +33,7 @@ module _ (is : List Instruction) (room k total n : ℕ) (i : Instruction) (m : M
   measuring_more r = record { sum = let a = m.sum in let b = split in omega arith; within = let w = m.within in omega arith }
 
   pub measuring_short : room - total < n → Err Short ≡ written (program_bytes is) room
-  measuring_short r = sym (cond-true _ _ _ (lt_ltb room (size is) (let a = m.sum in let b = split in let w = m.within in omega arith)))
+  measuring_short r = sym (cond-true _ _ _ (lt-ltb room (size is) (let a = m.sum in let b = split in let w = m.within in omega arith)))
 
 pub measuring_all : (is : List Instruction) (room k total : ℕ) → Measuring is room k total → length is ≤ k → Ok total ≡ written (program_bytes is) room
 measuring_all is room k total m h =
@@ -71,7 +71,7 @@ overlaid_fits bs old h = cond-false _ _ _ (le-ltb (length old) (length bs) h)
 
 -- a buffer that is too short for a program stays
 pub unmeasured : (is : List Instruction) (old : List ℕ) (f : WriteFault) → Err f ≡ written (program_bytes is) (length old) → old ≡ overlaid (program_bytes is) old
-unmeasured is old f e = sym (cond-true _ _ _ (lt_ltb (length old) (size is) (written_err (program_bytes is) (length old) f e)))
+unmeasured is old f e = sym (cond-true _ _ _ (lt-ltb (length old) (size is) (written_err (program_bytes is) (length old) f e)))
 
 -- a program that was measured fits
 pub measured : (is : List Instruction) (room n : ℕ) → Ok n ≡ written (program_bytes is) room → size is ≤ room
