@@ -6,9 +6,9 @@ use Rattle.loading.proofs.laying.vacant.Goals as goal
 
 pub returns-in_err-writable : goal.returns-in_err-writable
 returns-in_err-writable g c =
-    let gone = err_from_is_err_and c.from-residual.result c.from-residual.ensures.1 in
+    let gone = err_from_is_err_and c.from_residual.result c.from_residual.ensures.1 in
     let m = g.S.Readable.cells c.args.store.now in
-    vacancy_refused m c.loop-k.next c.args.count c.loop-k.-k c.in_err-writable.field-0.0 gone.0 (vacancy m c.args.at c.args.count) c.from-residual.result c.loop-k-test.true gone.1 gone.2 c.in_err-writable.ensures c.loop-k.invariant
+    vacancy_refused m c.loop-k.next c.args.count c.loop-k.-k c.in_err-writable.field-0.0 gone.0 (vacancy m c.args.at c.args.count) c.from_residual.result c.loop-k-test.true gone.1 gone.2 c.in_err-writable.ensures c.loop-k.invariant
 
 pub loop-k-preserved : goal.loop-k-preserved
 loop-k-preserved g c =

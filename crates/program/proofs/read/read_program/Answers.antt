@@ -15,7 +15,7 @@ returns-in_err-n g c =
     let out = c.args.out.now in
     let f = c.in_err-n.field-0.0 in
     let told = c.in_err-n.ensures in
-    let gone = err_from_is_err_and c.from-residual.result c.from-residual.ensures.1 in
+    let gone = err_from_is_err_and c.from_residual.result c.from_residual.ensures.1 in
     record {
       answers = gone.1 ∙ ap (λ (x : ProgramFault). Err x) gone.2 ∙ refused_answers (whole s end) f (length out) told;
       after = refused_stays (whole s end) f (map parts out) told;

@@ -20,8 +20,8 @@ loop-instruction-preserved c =
     c.instruction-item.result (measured c.args.program.now (length c.args.out.now) c.in_ok-total.total c.in_ok-total.ensures)
     c.loop-instruction-test.true (sym c.instruction-item.is) c.in-Ok.size c.write.new.out c.in-Ok.ensures.answers c.in-Ok.ensures.after
 
-pub overflow-add-at : goal.overflow-add-at
-overflow-add-at c =
+pub overflow_add-at : goal.overflow_add-at
+overflow_add-at c =
     let sum : c.loop-instruction.at + c.in-Ok.size ≤ length c.loop-instruction.out =
     laying_sum c.args.program.now c.args.out.now c.loop-instruction.out c.loop-instruction.instruction-index c.loop-instruction.at c.loop-instruction.invariant
     c.instruction-item.result (measured c.args.program.now (length c.args.out.now) c.in_ok-total.total c.in_ok-total.ensures)
@@ -31,7 +31,7 @@ overflow-add-at c =
 pub returns-in_err-total : goal.returns-in_err-total
 returns-in_err-total c =
     let told = c.in_err-total.ensures in
-    let gone = err_from_is_err_and c.from-residual.result c.from-residual.ensures.1 in
+    let gone = err_from_is_err_and c.from_residual.result c.from_residual.ensures.1 in
     record {
       answers = gone.1 ∙ ap (λ (f : WriteFault). Err f) gone.2 ∙ told;
       after = unmeasured c.args.program.now c.args.out.now c.in_err-total.field-0.0 told;

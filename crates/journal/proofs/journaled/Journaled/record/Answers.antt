@@ -15,7 +15,7 @@ invariant_of-self g c =
     let t = c.args.self.now in
     let e = length_past (view_of g.M.Readable.cells g.P.Ports.words t) (vec_items t.entries) in
     let h : length (vec_items t.entries) < 256 = omega (arith, e, ltb-true _ _ (sym c.if-not-has_room.ensures)) in
-    ((omega (arith, h, c.push_reserved.ensures.len), omega (arith, t.room.1, c.push_reserved.ensures.capacity)), tt)
+    record { room = (omega (arith, h, c.push_reserved.ensures.len), omega (arith, t.room.1, c.push_reserved.ensures.capacity)) }
 
 pub returns : goal.returns
 returns g c =
