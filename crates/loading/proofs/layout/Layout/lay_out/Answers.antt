@@ -11,7 +11,7 @@ invariant_of-self c =
     let is = c.args.program.now in
     let none = no_rows (vec_items l.records) l.lays (sym c.is_empty.ensures ∙ c.if-not-is_empty.false) in
     let e = taken_up (vec_items l.records) (vec_items c.push_program.new.rows) is none c.push_program.ensures.items in
-    (omega (arith, c.push_program.ensures.capacity, l.room), (lays_anew (vec_items c.push_program.new.rows) is e, tt))
+    record { room = omega (arith, c.push_program.ensures.capacity, l.room); lays = lays_anew (vec_items c.push_program.new.rows) is e }
 
 pub returns : goal.returns
 returns c =
