@@ -2,7 +2,6 @@
 use Rattle.std.specs.Prelude.{true, false, Some, None, Option}
 use Rattle.actions.specs.declared.action.Action.{Action}
 use Rattle.actions.specs.declared.action.Action.TheVariants.{Inner, Input, Output}
-use Rattle.actions.specs.declared.action.Command.{Command}
 use Rattle.actions.specs.declared.action.Command.TheVariants as command
 use Rattle.actions.specs.declared.action.Condition.{Condition}
 use Rattle.actions.specs.declared.action.Condition.TheVariants.{Equal, Greater, GreaterOrEqual, Less, LessOrEqual, NotEqual}
@@ -25,7 +24,6 @@ use Rattle.operands.specs.declared.operand.Operand.{Operand}
 use Rattle.operands.specs.declared.operand.Operand.TheVariants as o
 use Rattle.operands.specs.declared.register.Register.{Register}
 use Rattle.quantity.specs.Sums.{address}
-use Rattle.quantity.specs.declared.Address.{Address}
 use Rattle.quantity.specs.declared.Displacement.{Displacement}
 use Rattle.quantity.specs.declared.Number.{Number}
 

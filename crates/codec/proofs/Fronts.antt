@@ -1,5 +1,5 @@
 -- Bytes at the front of a byte string. Assumes nothing.
-use Rattle.std.proofs.Common.{◌≡◌, ℕ, ◌+◌, ◌/◌, ◌%◌, ◌<◌, ltb, List, [], ◌∷◌, ◌++◌, length, get_or, Some, None, Ok, Option, refl, ap, ◌∙◌, subst, append_assoc, mod-eq_of_lt, arith, ltb→lt, length-append, w16, of_z}
+use Rattle.std.proofs.Common.{◌≡◌, ℕ, ◌+◌, ◌/◌, ◌%◌, ◌<◌, List, [], ◌∷◌, ◌++◌, length, get_or, Some, None, Ok, Option, refl, ap, ◌∙◌, subst, append_assoc, mod-eq_of_lt, arith, ltb→lt, length-append, w16, of_z}
 use Rattle.std.proofs.lemmas.Nat.{mod_below}
 use Rattle.std.proofs.lemmas.List.{get_or_at, length_push}
 use Rattle.std.proofs.lemmas.Bool.{cond-true, lt-ltb}

@@ -1,5 +1,5 @@
 -- The commands on words: moves, arithmetic and comparisons. Assumes nothing.
-use Rattle.std.specs.Prelude.{Some, None, Ok, Err, Option, Result}
+use Rattle.std.specs.Prelude.{Some, None, Ok, Option, Result}
 use Rattle.actions.specs.declared.action.Place.{Place}
 use Rattle.actions.specs.declared.action.Source.{Source}
 use Rattle.arithmetic.specs.Results.{altered, combined, compared, divided}

@@ -1,5 +1,5 @@
 -- A processor and its memory while an instruction is done: its operands, read and written. Assumes nothing.
-use Rattle.std.specs.Prelude.{ℕ, ◌+◌, ◌%◌, ◌^◌, Some, None, Ok, Err, Option, Result}
+use Rattle.std.specs.Prelude.{ℕ, Ok, Err, Result}
 use Rattle.actions.specs.declared.action.MemoryOperand.{MemoryOperand}
 use Rattle.actions.specs.declared.action.MemoryOperand.TheVariants.{Direct, Indexed, Indirect, Relative}
 use Rattle.actions.specs.declared.action.Place.{Place}

@@ -1,5 +1,5 @@
 -- INT and the delivery of an interrupt. Assumes nothing.
-use Rattle.std.specs.Prelude.{ℕ, ◌*◌, cond, Some, None, Ok, Err, Option, Result}
+use Rattle.std.specs.Prelude.{ℕ, ◌*◌, None, Ok, Result}
 use Rattle.arithmetic.specs.StatusWord.{packed}
 use Rattle.processor.specs.Interrupts.{indexing}
 use Rattle.processor.specs.Processors.{number}

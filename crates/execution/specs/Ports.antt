@@ -2,13 +2,12 @@
 use Rattle.std.specs.Prelude.{ℕ, Ok, Option, Result}
 use Rattle.actions.specs.declared.action.MemoryOperand.{MemoryOperand}
 use Rattle.operands.specs.declared.register.Register.{Register}
-use Rattle.ports.specs.Banks.{getting, replaced, setting}
+use Rattle.ports.specs.Banks.{getting, setting}
 use Rattle.processor.specs.Processors.{register_word}
 use Rattle.processor.specs.declared.effect.PortWrite.{PortWrite}
 use Rattle.processor.specs.declared.fault.Cause.{Cause}
 use Rattle.processor.specs.declared.fault.Cause.TheVariants as cause
 use Rattle.processor.specs.declared.state.Processor.{Processor}
-use Rattle.quantity.specs.declared.Number.{Number}
 use Rattle.quantity.specs.declared.Port.{Port}
 use Rattle.words.specs.Words.{and_then}
 use Rattle.execution.specs.Contexts.{blamed, effective}

@@ -1,5 +1,5 @@
 -- The stack grows toward lower addresses; SP is the address of its top. Assumes nothing.
-use Rattle.std.specs.Prelude.{Ok, Err, Result}
+use Rattle.std.specs.Prelude.{Ok, Result}
 use Rattle.actions.specs.declared.action.Place.{Place}
 use Rattle.arithmetic.specs.StatusWord.{unpacked}
 use Rattle.processor.specs.Processors.{number}

@@ -1,12 +1,11 @@
 -- The standing calls, run again, by induction on the calls. Assumes nothing.
-use Rattle.std.proofs.Common.{◌≡◌, ℕ, ◌+◌, Bool, true, false, cond, List, [], ◌∷◌, ◌++◌, reverse, length, is_some, Ok, Err, Result, sym, refl, ap, ◌∙◌, subst, add-one, arith}
+use Rattle.std.proofs.Common.{◌≡◌, ℕ, Bool, true, false, cond, List, [], ◌∷◌, ◌++◌, reverse, length, is_some, Ok, Err, Result, sym, refl, ap, ◌∙◌, subst, add-one, arith}
 use mathlib.Core.List.{reverse-cons}
 use Rattle.execution.specs.Contexts.{blamed}
 use Rattle.history.specs.Calls.{Call, kind}
 use Rattle.history.specs.Calls as call
 use Rattle.history.specs.Runs.{after, answered, answers, runs, said, stepped, taken}
 use Rattle.history.specs.Standing.{Stood, answers_of, calls_of, counted, counted_as, entries_due, joined, kept, last_kept, standing, struck}
-use Rattle.history.specs.declared.call.Answer.{Answer}
 use Rattle.history.specs.declared.call.Answer.TheVariants as answer
 use Rattle.history.specs.declared.call.Kind.{Kind}
 use Rattle.history.specs.declared.call.Kind.TheVariants.{Backward, Clearing, Journaled, Looking}

@@ -1,5 +1,5 @@
 -- A journal, entry by entry, against the story that it stands for. Assumes nothing.
-use Rattle.std.proofs.Common.{◌≡◌, ℕ, suc, Bool, true, cond, List, [], ◌∷◌, ◌++◌, reverse, length, Ok, sym, refl, ap, ◌∙◌, arith, length-append}
+use Rattle.std.proofs.Common.{◌≡◌, suc, List, [], ◌∷◌, ◌++◌, reverse, length, Ok, sym, refl, ap, ◌∙◌, arith, length-append}
 use mathlib.Core.List.{reverse-append, reverse-cons}
 use Rattle.journal.proofs.Undoing.{undoes}
 use Rattle.journal.specs.Entries.{entry_of, undone}

@@ -1,5 +1,5 @@
 -- What each call but load and step answers, and what it leaves. Assumes nothing.
-use Rattle.std.specs.Prelude.{ℕ, Bool, cond, not, length, is_some, Some, None, Ok, Err, Option, Result}
+use Rattle.std.specs.Prelude.{ℕ, not, length, is_some, Some, None, Ok, Err, Option, Result}
 use Rattle.execution.specs.Contexts.{blamed}
 use Rattle.journal.specs.Stories.{back_answer, back_story, forgotten}
 use Rattle.machine.specs.States.{Said, State, granted, loaded, moved, present, ready, upon, with_story}

@@ -1,5 +1,5 @@
 -- What a load answers, and what it leaves. Assumes nothing.
-use Rattle.std.specs.Prelude.{ℕ, ◌+◌, Bool, cond, not, ◌&&◌, List, [], ◌∷◌, length, is_some, Some, Ok, Err, Option, Result, nat_le}
+use Rattle.std.specs.Prelude.{ℕ, ◌+◌, Bool, not, ◌&&◌, List, length, is_some, Some, Ok, Result, nat_le}
 use Rattle.cisca.specs.declared.instruction.Instruction.{Instruction}
 use Rattle.execution.specs.Contexts.{blamed}
 use Rattle.journal.specs.Stories.{begun}

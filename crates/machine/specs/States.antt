@@ -1,11 +1,10 @@
 -- A machine as its caller sees it. Assumes nothing.
-use Rattle.std.specs.Prelude.{Bool, true, false, cond, List, is_some, Ok, Err, Option, Result}
+use Rattle.std.specs.Prelude.{Bool, true, false, List, is_some, Ok, Err, Option, Result}
 use Rattle.cisca.specs.declared.instruction.Instruction.{Instruction}
 use Rattle.journal.specs.Stories.{Story, journaled, roomy}
 use Rattle.machine.specs.declared.fault.CallFault.{CallFault}
 use Rattle.machine.specs.declared.fault.CallFault.TheVariants as fault
 use Rattle.processor.specs.Views.{View}
-use Rattle.processor.specs.declared.state.Processor.{Processor}
 use Rattle.quantity.specs.declared.Address.{Address}
 use Rattle.words.specs.Words.{and_then}
 

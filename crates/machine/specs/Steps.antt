@@ -1,10 +1,9 @@
 -- One step, over any execution of instructions. Assumes nothing.
 use Rattle.std.specs.Prelude.{ℕ, ◌-◌, Bool, true, false, cond, List, is_some, Some, None, Ok, Err, Option, Result, nat_le}
 use Rattle.cisca.specs.declared.instruction.Instruction.{Instruction}
-use Rattle.execution.specs.Contexts.{blamed}
 use Rattle.execution.specs.Executions.{delivered, executed}
 use Rattle.loading.specs.Layouts.{starting}
-use Rattle.machine.specs.States.{State, granted, loaded, moved, present}
+use Rattle.machine.specs.States.{State, moved, present}
 use Rattle.machine.specs.declared.machine.step.Stepped.{Stepped}
 use Rattle.machine.specs.declared.machine.step.Stepped.TheVariants.{Delivered, Executed}
 use Rattle.journal.specs.Stories.{roomy}

@@ -1,5 +1,5 @@
 -- What a processor holds. Assumes nothing.
-use Rattle.std.specs.Prelude.{ℕ, Bool, false, cond, replicate, None, Option, slice_index_or}
+use Rattle.std.specs.Prelude.{ℕ, false, cond, replicate, None, Option, slice_index_or}
 use Rattle.arithmetic.specs.declared.status.Status.{Status}
 use Rattle.operands.specs.declared.register.Register.{Register}
 use Rattle.processor.specs.declared.interrupt.InterruptIndex.{InterruptIndex}

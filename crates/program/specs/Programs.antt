@@ -1,7 +1,7 @@
 -- A whole program: its bytes, and its reading. Assumes nothing.
 use Rattle.std.specs.Prelude.{ℕ, zero, suc, cond, List, [], ◌∷◌, ◌++◌, length, drop, Some, None, Ok, Err, Option, Result, nat_lt}
 use Rattle.std.specs.List.{flat_map}
-use Rattle.cisca.specs.Making.{Parts, parts}
+use Rattle.cisca.specs.Making.{Parts}
 use Rattle.cisca.specs.declared.instruction.Instruction.{Instruction}
 use Rattle.codec.specs.Decoding.{Read, decode}
 use Rattle.codec.specs.Encoding.{bytes}

@@ -1,16 +1,11 @@
 -- After a comparison each condition holds exactly where the numbers compare so. Assumes nothing.
-use Rattle.std.proofs.Common.{◌≡◌, ℕ, ◌-◌, ◌^◌, ◌<◌, Bool, true, false, not, ◌||◌, eqb, leb, ℤ, pos, negsuc, ◌-ℤ◌, sym, refl, ap, ◌∙◌, arith}
+use Rattle.std.proofs.Common.{◌≡◌, ℕ, ◌^◌, ◌<◌, not, ◌||◌, eqb, leb, ◌-ℤ◌, ap, ◌∙◌, arith}
 use lib.Signed.{le_z, lt_z}
-use Rattle.std.proofs.lemmas.Int.{ints}
 use Rattle.std.proofs.lemmas.Bool.Decides.{nat_tests}
-use Rattle.actions.specs.declared.action.Condition.{Condition}
 use Rattle.actions.specs.declared.action.Condition.TheVariants.{Equal, Greater, GreaterOrEqual, Less, LessOrEqual, NotEqual}
-use Rattle.arithmetic.specs.Results.{compared, differ, number}
-use Rattle.arithmetic.specs.declared.operation.Comparison.TheVariants.{Cmp}
-use Rattle.arithmetic.specs.declared.status.Status.{Status}
-use Rattle.execution.specs.Jumps.{holds}
+use Rattle.arithmetic.specs.Results.{differ}
 use Rattle.quantity.specs.Integers.{outside, signed, word}
-use Rattle.stepping.specs.Laws.{ConditionsCompare, compares}
+use Rattle.stepping.specs.Laws.{ConditionsCompare}
 
 less : (a b : ℕ) → a < 2 ^ 32 → b < 2 ^ 32 → differ (leb (2 ^ 31) (word (signed a -ℤ signed b))) (outside (signed a -ℤ signed b)) ≡ lt_z (signed a) (signed b)
 less a b p q = grind (arith, nat_tests)

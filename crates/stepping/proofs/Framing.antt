@@ -1,5 +1,5 @@
 -- A part of the processor that a command leaves as it was. Assumes nothing.
-use Rattle.std.proofs.Common.{◌≡◌, ℕ, ◌*◌, Bool, true, false, cond, ◌||◌, eqb, ltb, ◌≢◌, IfOk, Some, None, Ok, Err, Option, Result, sym, refl, ap, ◌∙◌, arith, get_or-set_other}
+use Rattle.std.proofs.Common.{◌≡◌, ℕ, ◌*◌, Bool, true, false, cond, ◌||◌, eqb, ◌≢◌, IfOk, Some, None, Ok, Err, Option, Result, refl, ◌∙◌, arith, get_or-set_other}
 use Rattle.std.proofs.lemmas.Result.{IfOk-weaker}
 use Rattle.std.proofs.lemmas.Bool.Decides.{nat_tests}
 use Rattle.actions.specs.declared.action.Command.{Command}
@@ -10,16 +10,15 @@ use Rattle.arithmetic.specs.Results.{divided}
 use Rattle.arithmetic.specs.StatusWord.{packed}
 use Rattle.arithmetic.specs.declared.division.Division.{Division}
 use Rattle.arithmetic.specs.declared.status.Status.{Status}
-use Rattle.execution.specs.Commands.{noted, remaining, resulting, sharing}
+use Rattle.execution.specs.Commands.{noted, resulting, sharing}
 use Rattle.execution.specs.Contexts.{Context, at_destination, at_source, at_stack, at_vector, blamed, destination_word, effective, kept, place_word, source_word, turned, writable}
 use Rattle.execution.specs.Executions.{commanded}
-use Rattle.execution.specs.Interrupts.{interrupting, serving}
+use Rattle.execution.specs.Interrupts.{interrupting}
 use Rattle.execution.specs.Jumps.{holds}
-use Rattle.execution.specs.Registers.{lowered, raised, stack_top, with_pc, with_status, with_word}
+use Rattle.execution.specs.Registers.{lowered, stack_top, with_pc, with_status, with_word}
 use Rattle.execution.specs.Stack.{gone, popped, pushed}
 use Rattle.processor.specs.Interrupts.{indexing}
 use Rattle.processor.specs.Processors.{held, number}
-use Rattle.processor.specs.declared.fault.Cause.{Cause}
 use Rattle.processor.specs.declared.fault.Cause.TheVariants as cause
 use Rattle.processor.specs.declared.state.Processor.{Processor}
 use Rattle.quantity.specs.Sums.{address, displaced}

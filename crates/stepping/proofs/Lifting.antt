@@ -1,12 +1,12 @@
 -- The laws of commands, lifted to whole instructions. Assumes nothing.
-use Rattle.std.proofs.Common.{◌≡◌, ℕ, Bool, false, eqb, IfOk, Some, None, Ok, Err, Option, Result, sym, refl, ap, ◌∙◌, subst, arith}
+use Rattle.std.proofs.Common.{◌≡◌, ℕ, false, eqb, IfOk, Some, None, Ok, Err, Option, Result, sym, refl, subst, arith}
 use Rattle.actions.specs.Actions.{action}
 use Rattle.actions.specs.declared.action.Action.{Action}
 use Rattle.actions.specs.declared.action.Action.TheVariants.{Inner, Input, Output}
 use Rattle.cisca.specs.Making.{parts}
 use Rattle.cisca.specs.declared.instruction.Instruction.{Instruction}
 use Rattle.execution.specs.Contexts.{Context, blamed, context}
-use Rattle.execution.specs.Executions.{beside, commanded, executed, located, next_address, performed, performed_if}
+use Rattle.execution.specs.Executions.{beside, commanded, executed, next_address, performed_if}
 use Rattle.execution.specs.Ports.{giving, port, taking}
 use Rattle.execution.specs.Registers.{with_pc}
 use Rattle.ports.specs.Banks.{getting}

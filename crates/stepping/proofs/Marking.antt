@@ -1,13 +1,13 @@
 -- The status bits before and after a command. Assumes nothing.
-use Rattle.std.proofs.Common.{◌≡◌, ℕ, ◌*◌, Bool, true, false, cond, eqb, IfOk, Some, None, Ok, Err, Option, Result, refl, ◌∙◌}
+use Rattle.std.proofs.Common.{◌≡◌, ℕ, ◌*◌, Bool, true, false, cond, IfOk, Some, None, Option, refl, ◌∙◌}
 use Rattle.std.proofs.lemmas.Result.{IfOk-weaker}
 use Rattle.actions.specs.declared.action.Command.{Command}
 use Rattle.actions.specs.declared.action.Command.TheVariants as command
 use Rattle.actions.specs.declared.action.Place.{Place}
 use Rattle.actions.specs.declared.action.Place.TheVariants as place
 use Rattle.arithmetic.proofs.Marking.{altered_keeps, combined_keeps, compared_keeps, divided_keeps}
-use Rattle.arithmetic.specs.Marks.{Keeps, Marks, binary_marks, comparison_marks, division_marks, unary_marks}
-use Rattle.arithmetic.specs.Results.{altered, combined, compared, divided}
+use Rattle.arithmetic.specs.Marks.{Keeps, binary_marks, division_marks, unary_marks}
+use Rattle.arithmetic.specs.Results.{altered, combined, divided}
 use Rattle.arithmetic.specs.StatusWord.{packed}
 use Rattle.arithmetic.specs.declared.division.Division.{Division}
 use Rattle.arithmetic.specs.declared.status.Status.{Status}
@@ -20,13 +20,12 @@ use Rattle.execution.specs.Registers.{lowered, stack_top, with_pc}
 use Rattle.execution.specs.Stack.{gone, popped, pushed}
 use Rattle.processor.specs.Interrupts.{indexing}
 use Rattle.processor.specs.Processors.{number}
-use Rattle.processor.specs.declared.fault.Cause.{Cause}
 use Rattle.processor.specs.declared.fault.Cause.TheVariants as cause
 use Rattle.processor.specs.declared.state.Processor.{Processor}
 use Rattle.quantity.specs.Sums.{address, displaced}
 use Rattle.quantity.specs.declared.Address.{Address}
 use Rattle.quantity.specs.declared.Number.{Number}
-use Rattle.words.specs.Words.{and_then, word_reading, word_writing}
+use Rattle.words.specs.Words.{word_reading, word_writing}
 use Rattle.stepping.proofs.Framing.{on_made, then_made}
 use Rattle.stepping.specs.Laws.{StatusFollows}
 

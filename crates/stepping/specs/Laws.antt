@@ -1,5 +1,5 @@
 -- What an instruction can change of a processor. Assumes nothing.
-use Rattle.std.specs.Prelude.{◌≡◌, ℕ, ◌^◌, ◌<◌, Bool, true, false, cond, not, ◌||◌, Some, None, Option, ◌==◌, int_le, int_lt, nat_eq}
+use Rattle.std.specs.Prelude.{◌≡◌, ℕ, ◌^◌, ◌<◌, Bool, true, false, not, ◌||◌, Some, None, Option, ◌==◌, int_le, int_lt, nat_eq}
 use Rattle.actions.specs.declared.action.Action.{Action}
 use Rattle.actions.specs.declared.action.Action.TheVariants.{Inner, Input, Output}
 use Rattle.actions.specs.declared.action.Command.{Command}
@@ -8,7 +8,7 @@ use Rattle.actions.specs.declared.action.Condition.{Condition}
 use Rattle.actions.specs.declared.action.Condition.TheVariants.{Equal, Greater, GreaterOrEqual, Less, LessOrEqual, NotEqual}
 use Rattle.actions.specs.declared.action.Place.{Place}
 use Rattle.actions.specs.declared.action.Place.TheVariants as place
-use Rattle.arithmetic.specs.Marks.{Keeps, Marks, binary_marks, comparison_marks, division_marks, marks, stays, unary_marks}
+use Rattle.arithmetic.specs.Marks.{Keeps, binary_marks, comparison_marks, division_marks, unary_marks}
 use Rattle.arithmetic.specs.Results.{compared, number}
 use Rattle.arithmetic.specs.declared.operation.Comparison.TheVariants.{Cmp}
 use Rattle.arithmetic.specs.declared.status.Status.{Status}

@@ -1,7 +1,7 @@
-use Rattle.std.proofs.Common.{◌≡◌, ◌<◌, true, cond, length, Ok, Err, vec_items, sym, ap, ◌∙◌, arith, ltb-true}
+use Rattle.std.proofs.Common.{◌<◌, cond, length, Ok, Err, vec_items, sym, ap, ◌∙◌, arith, ltb-true}
 use Rattle.processor.specs.Views.{applied, view}
 use Rattle.journal.proofs.Telling.{length_past, pushed}
-use Rattle.journal.specs.Stories.{journaled, roomy, story_of, view_of}
+use Rattle.journal.specs.Stories.{journaled, story_of, view_of}
 use Rattle.journal.proofs.journaled.Journaled.record.Goals as goal
 
 pub push_reserved-requires : goal.push_reserved-requires
