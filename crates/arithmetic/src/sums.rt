@@ -7,12 +7,12 @@ use crate::status::Status;
 use quantity::Number;
 
 // Z and S follow the result, C and V are given, and IE stays.
-pub(crate) fn follow(status: Status, res: u32, carry: bool, overflow: bool) -> Status
-    ensures { result ≡ following status res carry overflow }
+pub(crate) fn follow(status: Status, value: u32, carry: bool, overflow: bool) -> Status
+    ensures { result ≡ following status value carry overflow }
 {
     Status {
-        zero: res == 0,
-        sign: res >= 0x8000_0000,
+        zero: value == 0,
+        sign: value >= 0x8000_0000,
         carry,
         overflow,
         enabled: status.enabled,

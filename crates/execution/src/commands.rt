@@ -22,11 +22,11 @@ fn keep_result<S: Store>(
     store: &S,
     processor: Processor,
     place: Place,
-    res: (Number, Status),
+    computed: (Number, Status),
 ) -> Result<Change, Cause>
-    ensures { outcome result (S.Readable.cells store.now) ≡ resulting place res (context processor (S.Readable.cells store.now)) }
+    ensures { outcome result (S.Readable.cells store.now) ≡ resulting place computed (context processor (S.Readable.cells store.now)) }
 {
-    keep(store, with_status(processor, res.1), place, res.0)
+    keep(store, with_status(processor, computed.1), place, computed.0)
 }
 
 // MOV.
@@ -115,19 +115,19 @@ fn share<S: Store>(
     store: &S,
     processor: Processor,
     place: Place,
-    res: (Option<Division>, Status),
+    divided: (Option<Division>, Status),
 ) -> Result<Change, Cause>
-    ensures { outcome result (S.Readable.cells store.now) ≡ sharing place res (context processor (S.Readable.cells store.now)) }
+    ensures { outcome result (S.Readable.cells store.now) ≡ sharing place divided (context processor (S.Readable.cells store.now)) }
 {
-    match res.0 {
+    match divided.0 {
         Some(division) => {
-            let done = keep_result(store, processor, place, (division.quotient, res.1))?;
+            let done = keep_result(store, processor, place, (division.quotient, divided.1))?;
             Ok(with_remainder(done, division.remainder))
         }
         None => {
             writable_place(store, processor, place)?;
             Ok(Change {
-                processor: with_status(processor, res.1),
+                processor: with_status(processor, divided.1),
                 first: None,
                 second: None,
             })

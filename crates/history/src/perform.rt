@@ -14,28 +14,28 @@ use memory::Store;
 use ports::Ports;
 use processor::fault::StepFault;
 
-fn said(res: Result<(), CallFault>) -> Answer
-    ensures { result ≡ said_of res }
+fn said(answer: Result<(), CallFault>) -> Answer
+    ensures { result ≡ said_of answer }
 {
-    match res {
+    match answer {
         Ok(()) => Answer::Done,
         Err(fault) => Answer::Refused(fault),
     }
 }
 
-fn stepped(res: Result<Stepped, StepFault>) -> Answer
-    ensures { result ≡ stepped_of res }
+fn stepped(answer: Result<Stepped, StepFault>) -> Answer
+    ensures { result ≡ stepped_of answer }
 {
-    match res {
+    match answer {
         Ok(step) => Answer::Stepped(step),
         Err(fault) => Answer::StepRefused(fault),
     }
 }
 
-fn showed(res: Result<Shown, CallFault>) -> Answer
-    ensures { result ≡ showed_of res }
+fn showed(answer: Result<Shown, CallFault>) -> Answer
+    ensures { result ≡ showed_of answer }
 {
-    match res {
+    match answer {
         Ok(shown) => Answer::Shown(shown),
         Err(fault) => Answer::Refused(fault),
     }
