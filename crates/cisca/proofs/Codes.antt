@@ -1,6 +1,7 @@
 -- An operation is told by its byte. Assumes nothing.
 use Rattle.std.proofs.Common.{◌≡◌, ℕ, ◌<◌, eqb, List, [], ◌∷◌, map, Some, Option, sym, refl, ap, ◌∙◌, inl, inr, arith, lit<}
-use Rattle.std.proofs.lemmas.Bool.{cases_Bool, cond-false, cond-true, eqb-true}
+use Rattle.std.proofs.lemmas.Bool.{cases_Bool, cond-false, cond-true, eq-eqb, eqb-true}
+use Rattle.std.specs.Prelude.{◌==◌, Decides}
 use Rattle.cisca.specs.declared.operation.Operation.{Operation}
 use Rattle.cisca.specs.declared.operation.Operation.TheVariants as op
 use Rattle.cisca.specs.Table.{code, operation_of, operations, row_of, row_of_code}
@@ -46,6 +47,10 @@ pub code_tells : (x y : Operation) → code x ≡ code y → x ≡ y
 code_tells x y e =
     let both : Some x ≡ Some y = sym (code_finds x) ∙ ap operation_of e ∙ code_finds y in
     cc
+
+-- so `==`, which compares the bytes, decides whether two operations are the same
+pub same_operation : (x y : Operation) → Decides (code x == code y) (x ≡ y)
+same_operation x y = (λ t. code_tells x y (eqb-true (code x) (code y) t), λ e. eq-eqb (code x) (code y) (ap code e))
 
 un_some : {X : Type 0} {x y : X} → ◌≡◌ {A = Option X} (Some x) (Some y) → x ≡ y
 un_some e = cc
