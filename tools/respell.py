@@ -7,8 +7,9 @@ usage: python3 tools/respell.py            at the top of the repository, once, r
 Turned are names with a dash that the files of specs/ and proofs/ declare: one that begins with a small
 letter becomes snake case (program-bytes, program_bytes), one that begins with a capital, which is a
 type or a fact, camel case (Reads-back, ReadsBack). Names that Rattle makes of the code (those that a
-proof cites as goal.NAME) and names of the library stay. In .rt files only the lines of
-contracts and ghost items are touched: the code has no name with a dash.
+proof cites as goal.NAME) stay, and so do names of the library, but for lt-ltb, which was put back by
+hand afterwards. A line of a .rt file is turned whole; names with a dash stand only in its clauses and
+ghost items, since code has none.
 """
 
 import os
