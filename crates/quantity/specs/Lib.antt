@@ -1,2 +1,4 @@
+pub mod Conversions
 pub mod Integers
 pub mod Sums
+pub mod Text
