@@ -11,7 +11,7 @@ use crate::sums::{add, mul, sub};
 use quantity::Number;
 
 // From two words to a word and the status bits.
-#[derive(Clone, Copy)]
+#[derive(Clone, Copy, PartialEq, Eq, Debug)]
 pub enum BinaryOperation {
     Add,
     Sub,
@@ -24,14 +24,14 @@ pub enum BinaryOperation {
 }
 
 // From two words to the status bits alone.
-#[derive(Clone, Copy)]
+#[derive(Clone, Copy, PartialEq, Eq, Debug)]
 pub enum Comparison {
     Cmp,
     Test,
 }
 
 // From one word to a word and the status bits.
-#[derive(Clone, Copy)]
+#[derive(Clone, Copy, PartialEq, Eq, Debug)]
 pub enum UnaryOperation {
     Inc,
     Dec,

@@ -5,7 +5,7 @@ ghost use Rattle.arithmetic.specs.StatusWord.{packed, unpacked, weighed};
 use quantity::Number;
 
 // Z, S, C and V, which tell of the last result, and IE, which lets requests in.
-#[derive(Clone, Copy, PartialEq, Eq, Debug)]
+#[derive(Clone, Copy, PartialEq, Eq, Debug, Default)]
 pub struct Status {
     pub zero: bool,
     pub sign: bool,

@@ -12,7 +12,7 @@ use Rattle.processor.specs.declared.fault.Cause.{Cause}
 use Rattle.quantity.specs.declared.Number.{Number}
 use Rattle.words.specs.Words.{and_then}
 use Rattle.execution.specs.Contexts.{Context, destination_word, kept, source_word, turned, writable}
-use Rattle.execution.specs.Registers.{with_status, with_word}
+use Rattle.processor.specs.Registers.{with_status, with_word}
 
 -- the context with another status
 abbrev pub noted : Status → Context → Context

@@ -19,7 +19,7 @@ use Rattle.quantity.specs.declared.Address.{Address}
 use Rattle.quantity.specs.declared.Number.{Number}
 use Rattle.words.specs.Words.{and_then, word_reading, word_writing, word_written}
 use Rattle.words.specs.declared.fault.WordFault.{WordFault}
-use Rattle.execution.specs.Registers.{with_register}
+use Rattle.processor.specs.Registers.{with_register}
 
 pub record Context : Type 0 where
   pub processor : Processor

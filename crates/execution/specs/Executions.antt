@@ -21,7 +21,7 @@ use Rattle.execution.specs.Contexts.{Context, blamed, context, turned}
 use Rattle.execution.specs.Interrupts.{delivering, serving}
 use Rattle.execution.specs.Jumps.{branched}
 use Rattle.execution.specs.Ports.{giving, taking}
-use Rattle.execution.specs.Registers.{with_pc, with_status}
+use Rattle.processor.specs.Registers.{with_pc, with_status}
 use Rattle.execution.specs.Stack.{calling, popping, pushing, resuming, returning}
 
 -- the bit IE set or cleared

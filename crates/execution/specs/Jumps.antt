@@ -7,7 +7,7 @@ use Rattle.arithmetic.specs.declared.status.Status.{Status}
 use Rattle.processor.specs.declared.state.Processor.{Processor}
 use Rattle.quantity.specs.Sums.{displaced}
 use Rattle.quantity.specs.declared.Displacement.{Displacement}
-use Rattle.execution.specs.Registers.{with_pc}
+use Rattle.processor.specs.Registers.{with_pc}
 
 -- does the condition hold of the status? After a comparison of two numbers the first is less where
 -- S and V differ

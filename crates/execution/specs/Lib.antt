@@ -5,5 +5,4 @@ pub mod Interrupts
 pub mod Jumps
 pub mod Pending
 pub mod Ports
-pub mod Registers
 pub mod Stack

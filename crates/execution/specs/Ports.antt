@@ -11,7 +11,7 @@ use Rattle.processor.specs.declared.state.Processor.{Processor}
 use Rattle.quantity.specs.declared.Port.{Port}
 use Rattle.words.specs.Words.{and_then}
 use Rattle.execution.specs.Contexts.{blamed, effective}
-use Rattle.execution.specs.Registers.{with_register}
+use Rattle.processor.specs.Registers.{with_register}
 
 -- the effective address is the port's number
 abbrev pub port : Processor → MemoryOperand → Port

@@ -10,7 +10,7 @@ use Rattle.quantity.specs.declared.Address.{Address}
 use Rattle.quantity.specs.declared.Number.{Number}
 use Rattle.words.specs.Words.{and_then, word_reading}
 use Rattle.execution.specs.Contexts.{Context, at_source, at_stack, kept, place_word, storing, turned}
-use Rattle.execution.specs.Registers.{lowered, raised, stack_top, with_pc, with_status}
+use Rattle.processor.specs.Registers.{lowered, raised, stack_top, with_pc, with_status}
 
 -- SP falls by 4, and the word is stored there
 abbrev pub pushed : Number → Context → Result Context Cause

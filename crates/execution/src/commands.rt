@@ -2,7 +2,7 @@
 ghost use Rattle.std.specs.Prelude.{◌≡◌};
 ghost use Rattle.execution.specs.Commands.{altering, combining, comparing, dividing, moving, resulting, sharing};
 ghost use Rattle.execution.specs.Contexts.{context, outcome};
-ghost use Rattle.execution.specs.Registers.{with_word};
+ghost use Rattle.processor.specs.Registers.{with_word};
 
 use crate::addressing::{destination_word, keep, source_value, writable_place};
 use crate::registers::{with_register, with_status};

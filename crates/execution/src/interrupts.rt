@@ -91,7 +91,7 @@ pub(crate) fn serve<S: Store>(
 ) -> Result<Change, Cause>
     ensures { outcome result (S.Readable.cells store.now) ≡ serving number (context processor (S.Readable.cells store.now)) }
 {
-    let index = InterruptIndex::new(number.0)?;
+    let index = InterruptIndex::try_from(number.0)?;
     interrupt(store, processor, index)
 }
 

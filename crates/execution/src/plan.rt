@@ -2,7 +2,7 @@
 ghost use Rattle.std.specs.Prelude.{◌≡◌, None};
 ghost use Rattle.execution.specs.Contexts.{context, outcome};
 ghost use Rattle.execution.specs.Executions.{commanded, delivered, executed, next_address, performed};
-ghost use Rattle.execution.specs.Registers.{with_status};
+ghost use Rattle.processor.specs.Registers.{with_status};
 ghost use Rattle.processor.specs.Views.{effected, view};
 
 use crate::commands::{alter, combine, compare, divide_word, move_word};

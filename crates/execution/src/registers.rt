@@ -1,6 +1,6 @@
 // A processor with one of its parts replaced.
 ghost use Rattle.std.specs.Prelude.{◌≡◌};
-ghost use Rattle.execution.specs.Registers.{lowered, raised, stack_top, with_pc, with_register, with_status};
+ghost use Rattle.processor.specs.Registers.{lowered, raised, stack_top, with_pc, with_register, with_status};
 
 use arithmetic::status::Status;
 use operands::register::Register;

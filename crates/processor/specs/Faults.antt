@@ -3,29 +3,45 @@ use Rattle.std.specs.Prelude.{ℕ, Some, None, Option}
 use Rattle.ports.specs.Faults as port
 use Rattle.processor.specs.declared.fault.Cause.{Cause}
 use Rattle.processor.specs.declared.fault.Cause.TheVariants as cause
-use Rattle.processor.specs.declared.fault.DestinationFault.{DestinationFault}
+use Rattle.processor.specs.declared.fault.DestinationPart.{DestinationPart}
 use Rattle.processor.specs.declared.fault.Part.{Part}
 use Rattle.processor.specs.declared.fault.Part.TheVariants as part
-use Rattle.processor.specs.declared.fault.SourceFault.{SourceFault}
-use Rattle.processor.specs.declared.fault.StackFault.{StackFault}
-use Rattle.processor.specs.declared.fault.VectorFault.{VectorFault}
+use Rattle.processor.specs.declared.fault.PartFault.{PartFault}
+use Rattle.processor.specs.declared.fault.SourcePart.{SourcePart}
+use Rattle.processor.specs.declared.fault.StackPart.{StackPart}
+use Rattle.processor.specs.declared.fault.VectorPart.{VectorPart}
 use Rattle.quantity.specs.declared.Address.{Address}
 use Rattle.quantity.specs.declared.Port.{Port}
 use Rattle.words.specs.Faults as word
 use Rattle.words.specs.declared.fault.WordFault.{WordFault}
 
--- a word's fault, at each part that reads or writes words
-abbrev pub by_source : WordFault → SourceFault
-by_source f = record { word = f }
+-- a word's fault, at a part that reads or writes words
+abbrev pub by_part : {P : Type 0} → WordFault → PartFault P
+by_part f = record { word = f; at = record {} }
 
-abbrev pub by_destination : WordFault → DestinationFault
-by_destination f = record { word = f }
+abbrev pub by_source : WordFault → PartFault SourcePart
+by_source f = by_part f
 
-abbrev pub by_stack : WordFault → StackFault
-by_stack f = record { word = f }
+abbrev pub by_destination : WordFault → PartFault DestinationPart
+by_destination f = by_part f
 
-abbrev pub by_vector : WordFault → VectorFault
-by_vector f = record { word = f }
+abbrev pub by_stack : WordFault → PartFault StackPart
+by_stack f = by_part f
+
+abbrev pub by_vector : WordFault → PartFault VectorPart
+by_vector f = by_part f
+
+-- the fault of the word that was refused
+abbrev pub word_of : Cause → Option WordFault
+word_of (cause.Source f) = Some f.word
+word_of (cause.Destination f) = Some f.word
+word_of (cause.Stack f) = Some f.word
+word_of (cause.Vector f) = Some f.word
+word_of (cause.Port f) = None
+word_of (cause.Index f) = None
+word_of cause.NoProgram = None
+word_of cause.NoStart = None
+word_of cause.JournalFull = None
 
 abbrev pub number_of : Cause → ℕ
 number_of (cause.Source f) = word.number_of f.word

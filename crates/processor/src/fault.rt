@@ -1,40 +1,73 @@
 // Why a step is refused. The store's fault is carried up whole: the `?` at each level says which part
 // of the instruction met it.
-ghost use Rattle.std.specs.Prelude.{◌≡◌};
-ghost use Rattle.processor.specs.Faults.{address_of, by_destination, by_source, by_stack, by_vector, number_of, part_of, port_of};
+ghost use Rattle.std.specs.Prelude.{◌≡◌, Some, refl};
+ghost use Rattle.processor.specs.Faults.{address_of, by_part, number_of, part_of, port_of, word_of};
+ghost use Rattle.processor.specs.declared.fault.Cause.{Cause};
 ghost use Rattle.processor.specs.declared.fault.Cause.TheVariants as cause;
+ghost use Rattle.processor.specs.declared.fault.Part.{Part};
+ghost use Rattle.processor.specs.declared.fault.Part.TheVariants as part;
+ghost use Rattle.processor.specs.declared.fault.PartFault.{PartFault};
 
 use crate::interrupt::making::IndexFault;
 use ports::fault::PortFault;
 use quantity::{Address, Port};
+use std::marker::PhantomData;
 use words::fault::WordFault;
 
-// A source operand cannot be read.
-#[derive(Clone, Copy)]
-pub struct SourceFault {
+// A word's fault, met at the part `P` of an instruction. The part is in the type alone.
+#[derive_where(Clone, Copy, PartialEq, Eq, Debug)]
+pub struct PartFault<P> {
     pub word: WordFault,
+    at: PhantomData<P>,
 }
+
+// A part of an instruction that reads or writes words of the store.
+pub trait WordPart {
+    // The part that a refusal names.
+    ghost part: { Part };
+
+    // The cause that such a fault is.
+    ghost cause: { PartFault Self → Cause };
+
+    fn cause(fault: PartFault<Self>) -> Cause
+        ensures { result ≡ cause fault };
+
+    // The cause names this part, and keeps the word's fault.
+    ghost names_part: { (f : PartFault Self) → part_of (cause f) ≡ Some part };
+
+    ghost keeps_word: { (f : PartFault Self) → word_of (cause f) ≡ Some f.word };
+}
+
+// A source operand.
+#[derive(Clone, Copy, PartialEq, Eq, Debug)]
+pub struct SourcePart;
+
+// A destination operand.
+#[derive(Clone, Copy, PartialEq, Eq, Debug)]
+pub struct DestinationPart;
+
+// A word of the stack.
+#[derive(Clone, Copy, PartialEq, Eq, Debug)]
+pub struct StackPart;
+
+// The vector of an interrupt.
+#[derive(Clone, Copy, PartialEq, Eq, Debug)]
+pub struct VectorPart;
+
+// A source operand cannot be read.
+pub type SourceFault = PartFault<SourcePart>;
 
 // A destination operand cannot be read or written.
-#[derive(Clone, Copy)]
-pub struct DestinationFault {
-    pub word: WordFault,
-}
+pub type DestinationFault = PartFault<DestinationPart>;
 
 // A word of the stack cannot be read or written.
-#[derive(Clone, Copy)]
-pub struct StackFault {
-    pub word: WordFault,
-}
+pub type StackFault = PartFault<StackPart>;
 
 // The vector of an interrupt cannot be read.
-#[derive(Clone, Copy)]
-pub struct VectorFault {
-    pub word: WordFault,
-}
+pub type VectorFault = PartFault<VectorPart>;
 
 // What a step was refused for.
-#[derive(Clone, Copy)]
+#[derive(Clone, Copy, PartialEq, Eq, Debug)]
 pub enum Cause {
     Source(SourceFault),
     Destination(DestinationFault),
@@ -52,7 +85,7 @@ pub enum Cause {
 }
 
 // The part of an instruction that was refused.
-#[derive(Clone, Copy, PartialEq, Eq)]
+#[derive(Clone, Copy, PartialEq, Eq, Debug)]
 pub enum Part {
     Source,
     Destination,
@@ -62,73 +95,92 @@ pub enum Part {
 }
 
 // The refusal of a step: its cause, and PC as it stood.
-#[derive(Clone, Copy)]
+#[derive(Clone, Copy, PartialEq, Eq, Debug)]
 pub struct StepFault {
     pub cause: Cause,
     pub pc: Address,
 }
 
-impl From<WordFault> for SourceFault {
-    ghost from_gives = { λ x y. y ≡ by_source x };
+impl WordPart for SourcePart {
+    ghost part = { part.Source };
 
-    fn from(word: WordFault) -> SourceFault {
-        SourceFault { word }
-    }
-}
+    ghost cause = { cause.Source };
 
-impl From<WordFault> for DestinationFault {
-    ghost from_gives = { λ x y. y ≡ by_destination x };
+    ghost names_part = { λ f. refl };
 
-    fn from(word: WordFault) -> DestinationFault {
-        DestinationFault { word }
-    }
-}
+    ghost keeps_word = { λ f. refl };
 
-impl From<WordFault> for StackFault {
-    ghost from_gives = { λ x y. y ≡ by_stack x };
-
-    fn from(word: WordFault) -> StackFault {
-        StackFault { word }
-    }
-}
-
-impl From<WordFault> for VectorFault {
-    ghost from_gives = { λ x y. y ≡ by_vector x };
-
-    fn from(word: WordFault) -> VectorFault {
-        VectorFault { word }
-    }
-}
-
-impl From<SourceFault> for Cause {
-    ghost from_gives = { λ x y. y ≡ cause.Source x };
-
-    fn from(fault: SourceFault) -> Cause {
+    fn cause(fault: SourceFault) -> Cause
+        ensures { result ≡ cause.Source fault }
+    {
         Cause::Source(fault)
     }
 }
 
-impl From<DestinationFault> for Cause {
-    ghost from_gives = { λ x y. y ≡ cause.Destination x };
+impl WordPart for DestinationPart {
+    ghost part = { part.Destination };
 
-    fn from(fault: DestinationFault) -> Cause {
+    ghost cause = { cause.Destination };
+
+    ghost names_part = { λ f. refl };
+
+    ghost keeps_word = { λ f. refl };
+
+    fn cause(fault: DestinationFault) -> Cause
+        ensures { result ≡ cause.Destination fault }
+    {
         Cause::Destination(fault)
     }
 }
 
-impl From<StackFault> for Cause {
-    ghost from_gives = { λ x y. y ≡ cause.Stack x };
+impl WordPart for StackPart {
+    ghost part = { part.Stack };
 
-    fn from(fault: StackFault) -> Cause {
+    ghost cause = { cause.Stack };
+
+    ghost names_part = { λ f. refl };
+
+    ghost keeps_word = { λ f. refl };
+
+    fn cause(fault: StackFault) -> Cause
+        ensures { result ≡ cause.Stack fault }
+    {
         Cause::Stack(fault)
     }
 }
 
-impl From<VectorFault> for Cause {
-    ghost from_gives = { λ x y. y ≡ cause.Vector x };
+impl WordPart for VectorPart {
+    ghost part = { part.Vector };
 
-    fn from(fault: VectorFault) -> Cause {
+    ghost cause = { cause.Vector };
+
+    ghost names_part = { λ f. refl };
+
+    ghost keeps_word = { λ f. refl };
+
+    fn cause(fault: VectorFault) -> Cause
+        ensures { result ≡ cause.Vector fault }
+    {
         Cause::Vector(fault)
+    }
+}
+
+impl<P> From<WordFault> for PartFault<P> {
+    ghost from_gives = { λ x y. y ≡ by_part x };
+
+    fn from(word: WordFault) -> PartFault<P> {
+        PartFault {
+            word,
+            at: PhantomData,
+        }
+    }
+}
+
+impl<P: WordPart> From<PartFault<P>> for Cause {
+    ghost from_gives = { λ x y. y ≡ P.cause x };
+
+    fn from(fault: PartFault<P>) -> Cause {
+        P::cause(fault)
     }
 }
 
@@ -148,16 +200,31 @@ impl From<IndexFault> for Cause {
     }
 }
 
+impl Cause {
+    // The fault of the word that was refused.
+    pub fn word(self) -> Option<WordFault>
+        ensures { result ≡ word_of self }
+    {
+        match self {
+            Cause::Source(PartFault { word, .. })
+            | Cause::Destination(PartFault { word, .. })
+            | Cause::Stack(PartFault { word, .. })
+            | Cause::Vector(PartFault { word, .. }) => Some(word),
+            _ => None,
+        }
+    }
+}
+
 impl StepFault {
     // The refusal's number: 10 to 12 for what is not there or fixed, 20, 25, 26 or 28.
     pub fn number(self) -> u8
         ensures { result ≡ number_of self.cause }
     {
         match self.cause {
-            Cause::Source(fault) => fault.word.number(),
-            Cause::Destination(fault) => fault.word.number(),
-            Cause::Stack(fault) => fault.word.number(),
-            Cause::Vector(fault) => fault.word.number(),
+            Cause::Source(PartFault { word, .. })
+            | Cause::Destination(PartFault { word, .. })
+            | Cause::Stack(PartFault { word, .. })
+            | Cause::Vector(PartFault { word, .. }) => word.number(),
             Cause::Port(fault) => fault.number(),
             Cause::Index(_) => 26,
             Cause::NoProgram => 20,
@@ -170,13 +237,7 @@ impl StepFault {
     pub fn address(self) -> Option<Address>
         ensures { result ≡ address_of self.cause }
     {
-        match self.cause {
-            Cause::Source(fault) => Some(fault.word.address()),
-            Cause::Destination(fault) => Some(fault.word.address()),
-            Cause::Stack(fault) => Some(fault.word.address()),
-            Cause::Vector(fault) => Some(fault.word.address()),
-            _ => None,
-        }
+        self.cause.word().map(|word| word.address())
     }
 
     // The port that a bank refused.

@@ -4,7 +4,7 @@ ghost use Rattle.std.specs.Prelude.{T, nat_lt};
 pub mod making;
 
 // The index of an interrupt.
-#[derive(Clone, Copy)]
+#[derive(Clone, Copy, PartialEq, Eq, Debug)]
 pub struct InterruptIndex {
     value: u8,
     ghost below: { T (nat_lt value 64) },

@@ -1,6 +1,7 @@
 // What a processor holds.
 ghost use Rattle.std.specs.Prelude.{◌≡◌};
 ghost use Rattle.processor.specs.Processors.{blank, due, register_word};
+ghost use Rattle.processor.specs.Registers.{lowered, raised, stack_top, with_pc, with_register, with_status};
 
 use crate::interrupt::InterruptIndex;
 use arithmetic::status::Status;
@@ -9,13 +10,16 @@ use quantity::{Address, Number};
 
 // The registers R0 to R15, of which R15 is the stack pointer SP; the program counter; the status
 // bits Z, S, C, V and IE; and the interrupt that waits. The bit IF is set exactly while one waits.
-#[derive(Clone, Copy)]
+#[derive(Clone, Copy, PartialEq, Eq, Debug)]
 pub struct Processor {
     pub registers: [Number; 16],
     pub pc: Address,
     pub status: Status,
     pub waiting: Option<InterruptIndex>,
 }
+
+// SP is R15.
+const STACK_POINTER: usize = 15;
 
 impl Processor {
     // All registers and bits 0, nothing waiting, and PC at an address.
@@ -25,13 +29,7 @@ impl Processor {
         Processor {
             registers: [Number(0); 16],
             pc,
-            status: Status {
-                zero: false,
-                sign: false,
-                carry: false,
-                overflow: false,
-                enabled: false,
-            },
+            status: Status::default(),
             waiting: None,
         }
     }
@@ -52,5 +50,50 @@ impl Processor {
         } else {
             None
         }
+    }
+
+    // The processor with a word in a register.
+    pub fn with_register(mut self, register: Register, word: Number) -> Processor
+        ensures { result ≡ with_register self register word }
+    {
+        self.registers[usize::from(register.index())] = word;
+        self
+    }
+
+    pub fn with_pc(self, pc: Address) -> Processor
+        ensures { result ≡ with_pc self pc }
+    {
+        Processor { pc, ..self }
+    }
+
+    pub fn with_status(self, status: Status) -> Processor
+        ensures { result ≡ with_status self status }
+    {
+        Processor { status, ..self }
+    }
+
+    // The address of the top of the stack, which SP holds.
+    pub fn stack_top(&self) -> Address
+        ensures { result ≡ stack_top self.now }
+    {
+        Address(self.registers[STACK_POINTER].0)
+    }
+
+    // SP one word lower.
+    pub fn stack_lowered(mut self) -> Processor
+        ensures { result ≡ lowered self }
+    {
+        let pointer = &mut self.registers[STACK_POINTER];
+        *pointer = Number(pointer.0.wrapping_sub(4));
+        self
+    }
+
+    // SP one word higher.
+    pub fn stack_raised(mut self) -> Processor
+        ensures { result ≡ raised self }
+    {
+        let pointer = &mut self.registers[STACK_POINTER];
+        *pointer = Number(pointer.0.wrapping_add(4));
+        self
     }
 }

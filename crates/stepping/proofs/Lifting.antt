@@ -8,7 +8,7 @@ use Rattle.cisca.specs.declared.instruction.Instruction.{Instruction}
 use Rattle.execution.specs.Contexts.{Context, blamed, context}
 use Rattle.execution.specs.Executions.{beside, commanded, executed, next_address, performed_if}
 use Rattle.execution.specs.Ports.{giving, port, taking}
-use Rattle.execution.specs.Registers.{with_pc}
+use Rattle.processor.specs.Registers.{with_pc}
 use Rattle.ports.specs.Banks.{getting}
 use Rattle.processor.specs.Processors.{held}
 use Rattle.processor.specs.Views.{View, view}

@@ -16,7 +16,7 @@ use Rattle.execution.specs.Contexts.{Context, at_destination, at_source, at_stac
 use Rattle.execution.specs.Executions.{commanded}
 use Rattle.execution.specs.Interrupts.{interrupting}
 use Rattle.execution.specs.Jumps.{holds}
-use Rattle.execution.specs.Registers.{lowered, stack_top, with_pc}
+use Rattle.processor.specs.Registers.{lowered, stack_top, with_pc}
 use Rattle.execution.specs.Stack.{gone, popped, pushed}
 use Rattle.processor.specs.Interrupts.{indexing}
 use Rattle.processor.specs.Processors.{number}

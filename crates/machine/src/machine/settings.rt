@@ -91,7 +91,7 @@ impl<S: Store, P: Ports> Machine<S, P> {
         ensures after { state_of S.Readable.cells P.Ports.words self.new ≡ request_made index (state_of S.Readable.cells P.Ports.words self.old) }
     {
         self.ready()?;
-        let index = InterruptIndex::new(u32::from(index))?;
+        let index = InterruptIndex::try_from(u32::from(index))?;
         let processor = self.system.processor;
         if let Some(_) = processor.waiting {
             return Err(CallFault::Waiting);

@@ -5,7 +5,7 @@ ghost use Rattle.processor.specs.Interrupts.{index_of, indexing};
 use super::InterruptIndex;
 
 // No interrupt has this index.
-#[derive(Clone, Copy)]
+#[derive(Clone, Copy, PartialEq, Eq, Debug)]
 pub struct IndexFault;
 
 impl InterruptIndex {
@@ -18,20 +18,24 @@ impl InterruptIndex {
         }
     }
 
-    // The index of this number; one above 63 is refused.
-    pub fn new(number: u32) -> Result<InterruptIndex, IndexFault>
-        ensures { result ≡ indexing number }
+    pub fn value(self) -> u8
+        ensures { result ≡ self.value }
     {
+        self.value
+    }
+}
+
+// The index of a number; one above 63 is refused.
+impl TryFrom<u32> for InterruptIndex {
+    type Error = IndexFault;
+
+    ghost try_from_gives = { λ x y. y ≡ indexing x };
+
+    fn try_from(number: u32) -> Result<InterruptIndex, IndexFault> {
         if number < 64 {
             Ok(InterruptIndex::low(number))
         } else {
             Err(IndexFault)
         }
-    }
-
-    pub fn value(self) -> u8
-        ensures { result ≡ self.value }
-    {
-        self.value
     }
 }
