@@ -99,7 +99,7 @@ fn mode_byte_of(
 ) -> Result<ModeByte, ReadFault>
     ensures { result ≡ judged_mode (fits_behind group before) byte at }
 {
-    let Some(mode) = Mode::from_number(byte / 16) else {
+    let Ok(mode) = Mode::try_from(byte / 16) else {
         return Err(fault(ReadCause::UnknownMode, at));
     };
     if !fits_behind(group, before, mode) {

@@ -1,3 +1,4 @@
 pub mod Groups
 pub mod Modes
+pub mod Text
 pub mod Widths

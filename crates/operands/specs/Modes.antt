@@ -1,7 +1,8 @@
 -- The modes of an operand, and their numbers. Assumes nothing.
-use Rattle.std.specs.Prelude.{ℕ, Bool, true, false, cond, List, [], ◌∷◌, Some, None, Option, ◌==◌}
+use Rattle.std.specs.Prelude.{◌≡◌, ℕ, Bool, true, false, cond, List, [], ◌∷◌, Some, None, Option, Result, MatchResult, ◌==◌}
 use Rattle.operands.specs.declared.mode.Mode.{Mode}
 use Rattle.operands.specs.declared.mode.Mode.TheVariants as m
+use Rattle.operands.specs.declared.mode.UnknownMode.{UnknownMode}
 use Rattle.operands.specs.declared.operand.Operand.{Operand}
 use Rattle.operands.specs.declared.operand.Operand.TheVariants.{Direct, Immediate, Indexed, Indirect, PcRelative, Register, Relative}
 
@@ -34,6 +35,10 @@ mode_among (x ∷ xs) n = cond (mode_number x == n) (Some x) (mode_among xs n)
 -- the mode of this number
 abbrev pub mode_of : ℕ → Option Mode
 mode_of n = mode_among modes n
+
+-- the answer is the mode of this number, or a refusal of a number that has none
+abbrev pub ModeOf : ℕ → Result Mode UnknownMode → Type 0
+ModeOf n r = MatchResult r (λ x. mode_of n ≡ Some x) (λ e. (mode_of n ≡ None) × (e.0 ≡ n))
 
 abbrev pub immediate : Mode → Bool
 immediate m.Immediate = true

@@ -5,7 +5,7 @@ ghost use Rattle.operands.specs.Groups.{first_fits, operand_count, second_fits};
 use crate::mode::Mode;
 
 // A group of operations that take the same operands.
-#[derive(Clone, Copy)]
+#[derive(Clone, Copy, PartialEq, Eq, Debug)]
 pub enum Group {
     // No operand.
     Bare,

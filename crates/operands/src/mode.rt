@@ -1,9 +1,9 @@
 // The modes of an operand.
 ghost use Rattle.std.specs.Prelude.{◌≡◌};
-ghost use Rattle.operands.specs.Modes.{immediate, memory, mode_number, mode_of, pc_relative, register, unregistered};
+ghost use Rattle.operands.specs.Modes.{ModeOf, immediate, memory, mode_number, pc_relative, register, unregistered};
 
 // The kind of an operand, in the order of the modes' numbers, 0 to 6.
-#[derive(Clone, Copy)]
+#[derive(Clone, Copy, PartialEq, Eq, Debug)]
 pub enum Mode {
     Immediate,
     Register,
@@ -14,28 +14,35 @@ pub enum Mode {
     PcRelative,
 }
 
+// A number that no mode has: 7 or above.
+#[derive(Clone, Copy, PartialEq, Eq, Debug)]
+pub struct UnknownMode(pub u8);
+
+impl TryFrom<u8> for Mode {
+    type Error = UnknownMode;
+
+    ghost try_from_gives = { ModeOf };
+
+    fn try_from(number: u8) -> Result<Mode, UnknownMode> {
+        match number {
+            0 => Ok(Mode::Immediate),
+            1 => Ok(Mode::Register),
+            2 => Ok(Mode::Direct),
+            3 => Ok(Mode::Indirect),
+            4 => Ok(Mode::Relative),
+            5 => Ok(Mode::Indexed),
+            6 => Ok(Mode::PcRelative),
+            _ => Err(UnknownMode(number)),
+        }
+    }
+}
+
 impl Mode {
     // The high four bits of a mode byte.
     pub fn number(self) -> u8
         ensures { result ≡ mode_number self }
     {
         self as u8
-    }
-
-    // The mode of this number; 7 and above have none.
-    pub fn from_number(number: u8) -> Option<Mode>
-        ensures { result ≡ mode_of number }
-    {
-        match number {
-            0 => Some(Mode::Immediate),
-            1 => Some(Mode::Register),
-            2 => Some(Mode::Direct),
-            3 => Some(Mode::Indirect),
-            4 => Some(Mode::Relative),
-            5 => Some(Mode::Indexed),
-            6 => Some(Mode::PcRelative),
-            _ => None,
-        }
     }
 
     pub fn is_immediate(self) -> bool

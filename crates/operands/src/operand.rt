@@ -1,13 +1,15 @@
 // Operands.
-ghost use Rattle.std.specs.Prelude.{◌≡◌};
+ghost use Rattle.std.specs.Prelude.{◌≡◌, Some};
 ghost use Rattle.operands.specs.Modes.{mode};
+ghost use Rattle.operands.specs.Text.{operand_text};
 
 use crate::mode::Mode;
 use crate::register::Register;
 use quantity::{Address, Displacement, Number};
+use std::fmt;
 
 // What an instruction works on.
-#[derive(Clone, Copy, PartialEq, Eq)]
+#[derive(Clone, Copy, PartialEq, Eq, Debug)]
 pub enum Operand {
     // The word itself.
     Immediate(Number),
@@ -37,6 +39,22 @@ impl Operand {
             Operand::Relative(_, _) => Mode::Relative,
             Operand::Indexed(_, _) => Mode::Indexed,
             Operand::PcRelative(_) => Mode::PcRelative,
+        }
+    }
+}
+
+impl fmt::Display for Operand {
+    ghost output = { λ operand. Some (operand_text operand) };
+
+    fn fmt<W: fmt::Write>(&self, f: &mut fmt::Formatter<W>) -> fmt::Result {
+        match self {
+            Operand::Immediate(number) => write!(f, "{number}"),
+            Operand::Register(register) => write!(f, "{register}"),
+            Operand::Direct(at) => write!(f, "[{at}]"),
+            Operand::Indirect(register) => write!(f, "[{register}]"),
+            Operand::Relative(register, by) => write!(f, "[{register}{by}]"),
+            Operand::Indexed(at, register) => write!(f, "[{at}+{register}]"),
+            Operand::PcRelative(by) => write!(f, "PC{by}"),
         }
     }
 }

@@ -1,5 +1,7 @@
 // The registers R0 to R15.
-ghost use Rattle.std.specs.Prelude.{◌≡◌, ◌%◌, ◌<◌, T, nat_lt};
+ghost use Rattle.std.specs.Prelude.{◌≡◌, ◌%◌, ◌<◌, Some, T, nat_lt};
+
+use std::fmt;
 
 // A register by its number. R15 is the stack pointer.
 #[derive(Clone, Copy, PartialEq, Eq, Debug)]
@@ -22,5 +24,15 @@ impl Register {
         ensures bound { result < 16 }
     {
         self.index
+    }
+}
+
+impl fmt::Display for Register {
+    ghost use Rattle.operands.specs.Text.{register_text};
+
+    ghost output = { λ register. Some (register_text register) };
+
+    fn fmt<W: fmt::Write>(&self, f: &mut fmt::Formatter<W>) -> fmt::Result {
+        write!(f, "R{}", self.index)
     }
 }
