@@ -60,9 +60,9 @@ fn four_bytes<S: Source>(source: &S, at: usize) -> Result<(u32, usize), ReadFaul
 fn operation_of(byte: u8, at: usize) -> Result<Operation, ReadFault>
     ensures { result ≡ judged_operation byte at }
 {
-    match Operation::from_code(byte) {
-        Some(operation) => Ok(operation),
-        None => Err(fault(ReadCause::UnknownOperation, at)),
+    match Operation::try_from(byte) {
+        Ok(operation) => Ok(operation),
+        Err(_) => Err(fault(ReadCause::UnknownOperation, at)),
     }
 }
 

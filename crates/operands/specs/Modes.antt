@@ -1,5 +1,6 @@
 -- The modes of an operand, and their numbers. Assumes nothing.
-use Rattle.std.specs.Prelude.{◌≡◌, ℕ, Bool, true, false, cond, List, [], ◌∷◌, Some, None, Option, Result, MatchResult, ◌==◌}
+use Rattle.std.specs.Prelude.{◌≡◌, ℕ, Bool, true, false, List, [], ◌∷◌, Some, None, Option, Result, MatchResult, ◌==◌}
+use Rattle.std.specs.List.{find}
 use Rattle.operands.specs.declared.mode.Mode.{Mode}
 use Rattle.operands.specs.declared.mode.Mode.TheVariants as m
 use Rattle.operands.specs.declared.mode.UnknownMode.{UnknownMode}
@@ -27,14 +28,9 @@ mode_number m.Relative = 4
 mode_number m.Indexed = 5
 mode_number m.PcRelative = 6
 
--- the first of these modes with this number
-abbrev pub mode_among : List Mode → ℕ → Option Mode
-mode_among [] n = None
-mode_among (x ∷ xs) n = cond (mode_number x == n) (Some x) (mode_among xs n)
-
 -- the mode of this number
 abbrev pub mode_of : ℕ → Option Mode
-mode_of n = mode_among modes n
+mode_of n = find (λ x. mode_number x == n) modes
 
 -- the answer is the mode of this number, or a refusal of a number that has none
 abbrev pub ModeOf : ℕ → Result Mode UnknownMode → Type 0

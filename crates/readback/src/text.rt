@@ -4,7 +4,6 @@ use codec::fault::ReadCause;
 use operands::operand::Operand;
 use quantity::Displacement;
 use std::fmt;
-use std::str::from_utf8;
 
 // An instruction: its mnemonic and its operands.
 #[derive(Clone, Copy)]
@@ -13,12 +12,11 @@ pub struct Line(pub Instruction);
 impl fmt::Display for Line {
     fn fmt<W: fmt::Write>(&self, f: &mut fmt::Formatter<W>) -> fmt::Result {
         let instruction = self.0;
-        let letters = instruction.operation().mnemonic();
-        let name = from_utf8(&letters).unwrap_or("");
+        let name = instruction.operation().mnemonic();
         let Some(first) = instruction.first() else {
-            return write!(f, "{}", name.trim_end());
+            return write!(f, "{name}");
         };
-        write!(f, "{} {}", name, OperandText(first))?;
+        write!(f, "{:4} {}", name, OperandText(first))?;
         if let Some(second) = instruction.second() {
             write!(f, ", {}", OperandText(second))?;
         }
