@@ -18,7 +18,7 @@ use Rattle.quantity.specs.declared.Address.{Address}
 
 -- the sealed memory, as far as addresses go
 abbrev pub sealed_cells : {S : Type 0} → (S → ℕ → Cell) → Seal (AddressSpace S) → ℕ → Cell
-sealed_cells cells s = sealed s.base.0 s.length (addressed (cells s.below.below))
+sealed_cells cells s = sealed s.range.base.0 s.range.length (addressed (cells s.below.below))
 
 -- the ports, as far as port numbers go
 abbrev pub numbered_words : {P : Type 0} → (P → ℕ → Option ℕ) → PortSpace P → ℕ → Option ℕ

@@ -27,5 +27,5 @@ pub struct Machine<S, P> {
     base: Address,
     layout: Layout,
     // Nothing is sealed before a program is loaded.
-    ghost unsealed: { (program_of layout ≡ [] → system.memory.length ≡ 0) },
+    ghost unsealed: { (program_of layout ≡ [] → system.memory.range.length ≡ 0) },
 }

@@ -1,9 +1,9 @@
 -- What a call on a memory answers. Assumes nothing.
-use Rattle.std.specs.Prelude.{ℕ, Ok, Err, Result}
+use Rattle.std.specs.Prelude.{ℕ, ◌-◌, cond, Ok, Err, Result}
 use Rattle.quantity.specs.declared.Address.{Address}
 use Rattle.memory.specs.declared.fault.StoreFault.{StoreFault}
 use Rattle.memory.specs.declared.fault.StoreFault.TheVariants.{Absent, Fixed}
-use Rattle.memory.specs.Cells.{Cell, fixed, free, nothing}
+use Rattle.memory.specs.Cells.{Cell, fixed, free, nothing, within}
 
 -- what a reading at a answers
 abbrev pub reading : Cell → Address → Result ℕ StoreFault
@@ -22,3 +22,7 @@ abbrev pub verified : Cell → ℕ → Address → Result ℕ StoreFault
 verified nothing b a = Err (Absent a)
 verified (free _) b a = Ok b
 verified (fixed _) b a = Err (Fixed a)
+
+-- which of n bytes from `base` on stands at a
+abbrev pub finding : ℕ → ℕ → Address → Result ℕ StoreFault
+finding base n a = cond (within base n a.0) (Ok (a.0 - base)) (Err (Absent a))

@@ -7,7 +7,8 @@ use crate::{Readable, Store};
 use quantity::Address;
 
 // What the memory below means above the last address is left out, so that two memories that are
-// alike at every address have one meaning.
+// alike at every address have one meaning. `PortSpace` of `ports` is the same for banks, under a
+// trait and a quantity of its own: one struct for both would have a name that says neither.
 #[derive(Drop)]
 pub struct AddressSpace<S> {
     below: S,

@@ -6,7 +6,8 @@ use crate::fault::StoreFault;
 use crate::{Readable, Store};
 use quantity::Address;
 
-// Addresses below `at` belong to the first, the others to the second.
+// Addresses below `at` belong to the first, the others to the second. Each call tests this itself:
+// the two may differ in type, and a choice made once would need an enum of both for each call.
 #[derive(Drop)]
 pub struct Bus<L, H> {
     at: Address,

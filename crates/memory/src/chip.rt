@@ -3,6 +3,7 @@ ghost use Rattle.std.specs.Prelude.{◌≡◌};
 ghost use Rattle.memory.specs.Cells.{chip, free};
 
 use crate::fault::StoreFault;
+use crate::read_only_chip::ReadOnlyChip;
 use crate::{Readable, Store};
 use quantity::Address;
 
@@ -29,19 +30,21 @@ impl Chip {
         let Chip { base: _, bytes } = self;
         bytes
     }
+
+    // The same bytes, only to be read.
+    fn read_only(&self) -> ReadOnlyChip<'_>
+        ensures based { result.base ≡ self.now.base }
+        ensures holds { result.bytes.now ≡ self.now.bytes.items }
+    {
+        ReadOnlyChip::new(self.base, &self.bytes)
+    }
 }
 
 impl Readable for Chip {
     ghost cells = { λ s. chip free s.base.0 s.bytes.items };
 
     fn read(&self, at: Address) -> Result<u8, StoreFault> {
-        if at.0 >= self.base.0 {
-            let offset = (at.0 - self.base.0) as usize;
-            if offset < self.bytes.len() {
-                return Ok(self.bytes[offset]);
-            }
-        }
-        Err(StoreFault::Absent(at))
+        self.read_only().read(at)
     }
 }
 
@@ -52,13 +55,8 @@ impl Store for Chip {
     }
 
     fn write(&mut self, at: Address, byte: u8) -> Result<(), StoreFault> {
-        if at.0 >= self.base.0 {
-            let offset = (at.0 - self.base.0) as usize;
-            if offset < self.bytes.len() {
-                self.bytes[offset] = byte;
-                return Ok(());
-            }
-        }
-        Err(StoreFault::Absent(at))
+        let index = self.read_only().index_of(at)?;
+        self.bytes[index] = byte;
+        Ok(())
     }
 }

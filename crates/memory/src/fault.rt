@@ -1,6 +1,6 @@
 // Why a store turns a call away.
 ghost use Rattle.std.specs.Prelude.{◌≡◌};
-ghost use Rattle.memory.specs.Faults.{address_of, number_of};
+ghost use Rattle.memory.specs.Faults.{address_of, number_of, readdressed};
 
 use quantity::Address;
 
@@ -30,6 +30,16 @@ impl StoreFault {
     {
         match self {
             StoreFault::Absent(at) | StoreFault::Fixed(at) => at,
+        }
+    }
+
+    // The same refusal at another address: that at which a layer was asked for the byte.
+    pub fn readdressed(self, at: Address) -> StoreFault
+        ensures { result ≡ readdressed self at }
+    {
+        match self {
+            StoreFault::Absent(_) => StoreFault::Absent(at),
+            StoreFault::Fixed(_) => StoreFault::Fixed(at),
         }
     }
 }

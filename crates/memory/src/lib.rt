@@ -8,6 +8,7 @@ ghost use Rattle.memory.specs.Cells.{Cell, written};
 use fault::StoreFault;
 use quantity::Address;
 
+pub mod address_range;
 pub mod address_space;
 pub mod bus;
 pub mod chip;

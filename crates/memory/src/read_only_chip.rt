@@ -1,5 +1,6 @@
 // A read-only chip: the caller's bytes from a base address on, all fixed.
-ghost use Rattle.std.specs.Prelude.{◌≡◌};
+ghost use Rattle.std.specs.Prelude.{◌≡◌, length};
+ghost use Rattle.memory.specs.Access.{finding};
 ghost use Rattle.memory.specs.Cells.{chip, fixed};
 
 use crate::fault::StoreFault;
@@ -21,19 +22,24 @@ impl<'a> ReadOnlyChip<'a> {
     {
         ReadOnlyChip { base, bytes }
     }
+
+    // Which of the bytes stands at an address, or a refusal where none does.
+    pub(crate) fn index_of(&self, at: Address) -> Result<usize, StoreFault>
+        ensures { result ≡ finding self.now.base.0 (length self.now.bytes.now) at }
+    {
+        at.0.checked_sub(self.base.0)
+            .map(|offset| offset as usize)
+            .filter(|index| *index < self.bytes.len())
+            .ok_or(StoreFault::Absent(at))
+    }
 }
 
 impl<'a> Readable for ReadOnlyChip<'a> {
     ghost cells = { λ s. chip fixed s.base.0 s.bytes.now };
 
     fn read(&self, at: Address) -> Result<u8, StoreFault> {
-        if at.0 >= self.base.0 {
-            let offset = (at.0 - self.base.0) as usize;
-            if offset < self.bytes.len() {
-                return Ok(self.bytes[offset]);
-            }
-        }
-        Err(StoreFault::Absent(at))
+        let index = self.index_of(at)?;
+        Ok(self.bytes[index])
     }
 }
 

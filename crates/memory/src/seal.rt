@@ -2,58 +2,51 @@
 ghost use Rattle.std.specs.Prelude.{◌≡◌};
 ghost use Rattle.memory.specs.Layers.{EmptySeal, SealsJoin, covered, sealed};
 
+use crate::address_range::AddressRange;
 use crate::fault::StoreFault;
 use crate::{Readable, Store};
 use quantity::Address;
 
-// The `length` bytes from `base` on are fixed; the range does not wrap, and may be empty.
+// The bytes of the range are fixed.
 #[derive(Drop)]
 pub struct Seal<S> {
-    base: Address,
-    length: u64,
+    range: AddressRange,
+    // Open to writing as it is, so that a program can be laid where the seal then moves to.
     pub below: S,
 }
 
 impl<S: Readable> Seal<S> {
     // A seal of no bytes changes nothing, and a seal over a seal fixes the bytes of both ranges.
-    pub fn new(base: Address, length: u64, below: S) -> Seal<S>
-        ensures based { result.base ≡ base }
-        ensures long { result.length ≡ length }
+    pub fn new(range: AddressRange, below: S) -> Seal<S>
+        ensures ranged { result.range ≡ range }
         ensures over { result.below ≡ below }
         ensures empty { EmptySeal (S.Readable.cells below) }
         ensures join { SealsJoin (S.Readable.cells below) }
     {
-        Seal {
-            base,
-            length,
-            below,
-        }
+        Seal { range, below }
     }
 
     // Moves the seal to another range.
-    pub fn cover(&mut self, base: Address, length: u64)
-        ensures based { self.new.base ≡ base }
-        ensures long { self.new.length ≡ length }
+    pub fn cover(&mut self, range: AddressRange)
+        ensures ranged { self.new.range ≡ range }
         ensures over { self.new.below ≡ self.old.below }
     {
-        self.base = base;
-        self.length = length;
+        self.range = range;
     }
 
     // Whether an address lies in the range.
     pub fn covers(&self, at: Address) -> bool
-        ensures { result ≡ covered self.now.base.0 self.now.length at.0 }
+        ensures { result ≡ covered self.now.range.base.0 self.now.range.length at.0 }
     {
-        at.0 >= self.base.0 && u64::from(at.0 - self.base.0) < self.length
+        self.range.contains(at)
     }
 }
 
 impl<S: Readable> Readable for Seal<S> {
-    ghost cells = { λ s. sealed s.base.0 s.length (S.Readable.cells s.below) };
+    ghost cells = { λ s. sealed s.range.base.0 s.range.length (S.Readable.cells s.below) };
 
     fn read(&self, at: Address) -> Result<u8, StoreFault> {
-        let memory = &self.below;
-        memory.read(at)
+        self.below.read(at)
     }
 }
 

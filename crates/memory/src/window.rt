@@ -1,6 +1,5 @@
 // A window: a memory shown at other addresses.
 ghost use Rattle.std.specs.Prelude.{◌≡◌};
-ghost use Rattle.memory.specs.Faults.{readdressed};
 ghost use Rattle.memory.specs.Layers.{StillWindow, shifted};
 
 use crate::fault::StoreFault;
@@ -25,39 +24,26 @@ impl<S: Readable> Window<S> {
     }
 }
 
-// The refusal at the address below, as one at the address that was asked for.
-fn shown_at(fault: StoreFault, at: Address) -> StoreFault
-    ensures { result ≡ readdressed fault at }
-{
-    match fault {
-        StoreFault::Absent(_) => StoreFault::Absent(at),
-        StoreFault::Fixed(_) => StoreFault::Fixed(at),
-    }
-}
-
 impl<S: Readable> Readable for Window<S> {
     ghost cells = { λ s. shifted s.offset (S.Readable.cells s.below) };
 
     fn read(&self, at: Address) -> Result<u8, StoreFault> {
-        match self.below.read(at.later(self.offset)) {
-            Ok(byte) => Ok(byte),
-            Err(fault) => Err(shown_at(fault, at)),
-        }
+        self.below
+            .read(at.later(self.offset))
+            .map_err(|fault| fault.readdressed(at))
     }
 }
 
 impl<S: Store> Store for Window<S> {
     fn writable(&self, at: Address) -> Result<(), StoreFault> {
-        match self.below.writable(at.later(self.offset)) {
-            Ok(()) => Ok(()),
-            Err(fault) => Err(shown_at(fault, at)),
-        }
+        self.below
+            .writable(at.later(self.offset))
+            .map_err(|fault| fault.readdressed(at))
     }
 
     fn write(&mut self, at: Address, byte: u8) -> Result<(), StoreFault> {
-        match self.below.write(at.later(self.offset), byte) {
-            Ok(()) => Ok(()),
-            Err(fault) => Err(shown_at(fault, at)),
-        }
+        self.below
+            .write(at.later(self.offset), byte)
+            .map_err(|fault| fault.readdressed(at))
     }
 }

@@ -6,6 +6,7 @@ ghost use Rattle.memory.specs.Access.{verified};
 ghost use Rattle.memory.specs.Cells.{chip, free};
 ghost use Rattle.memory.specs.Layers.{joined_at, sealed, shifted};
 
+use memory::address_range::AddressRange;
 use memory::bus::Bus;
 use memory::chip::Chip;
 use memory::fault::StoreFault;
@@ -21,15 +22,14 @@ pub fn write_through(
     low: Vec<u8>,
     high: Vec<u8>,
     offset: u32,
-    first: Address,
-    length: u64,
+    range: AddressRange,
     at: Address,
     byte: u8,
 ) -> Result<u8, StoreFault>
-    ensures { result ≡ verified (sealed first.0 length (shifted offset (joined_at split.0 (chip free 0 low.items) (chip free split.0 high.items))) at.0) byte at }
+    ensures { result ≡ verified (sealed range.base.0 range.length (shifted offset (joined_at split.0 (chip free 0 low.items) (chip free split.0 high.items))) at.0) byte at }
 {
     let bus = Bus::new(split, Chip::new(Address(0), low), Chip::new(split, high));
-    let mut pile = Seal::new(first, length, Window::new(offset, bus));
+    let mut pile = Seal::new(range, Window::new(offset, bus));
     write_verified(&mut pile, at, byte)
 }
 

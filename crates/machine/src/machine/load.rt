@@ -8,6 +8,7 @@ use crate::machine::Machine;
 use cisca::instruction::Instruction;
 use loading::laying::{lay_program, vacant};
 use memory::Store;
+use memory::address_range::AddressRange;
 use ports::Ports;
 use processor::state::Processor;
 use program::write::measure;
@@ -48,7 +49,10 @@ impl<S: Store, P: Ports> Machine<S, P> {
         ensures { state_of S.Readable.cells P.Ports.words self.new ≡ installed at program.now (state_of S.Readable.cells P.Ports.words self.old) }
     {
         lay_program(&mut self.system.memory.below, at, program);
-        self.system.memory.cover(at, length as u64);
+        self.system.memory.cover(AddressRange {
+            base: at,
+            length: length as u64,
+        });
         self.system.processor = Processor::new(at);
         self.system.forget();
         let _ = self.layout.lay_out(program);

@@ -6,6 +6,7 @@ use crate::machine::Machine;
 use journal::journaled::Journaled;
 use loading::layout::Layout;
 use memory::Store;
+use memory::address_range::AddressRange;
 use memory::address_space::AddressSpace;
 use memory::seal::Seal;
 use ports::Ports;
@@ -25,7 +26,7 @@ impl<S: Store, P: Ports> Machine<S, P> {
     {
         let layout = Layout::new(heap)?;
         let base = Address(0);
-        let memory = Seal::new(base, 0, AddressSpace::new(store));
+        let memory = Seal::new(AddressRange { base, length: 0 }, AddressSpace::new(store));
         let system = Journaled::new(heap, Processor::new(base), memory, PortSpace::new(ports))?;
         Ok(Machine {
             system,

@@ -27,9 +27,9 @@ returns g c =
     let below : ℕ → Cell = addressed (cells seal.below.below) in
     let written : ℕ → Cell = addressed (cells c.lay_program.new.store.below) in
     let covered : sealed_cells cells c.cover.new.self ≡ sealed at.0 n written =
-    λ i. sealed (c.cover.ensures.based i).0 (c.cover.ensures.long i) (addressed (cells (c.cover.ensures.over i).below)) in
+    λ i. sealed (c.cover.ensures.ranged i).base.0 (c.cover.ensures.ranged i).length (addressed (cells (c.cover.ensures.over i).below)) in
     let memory : sealed_cells cells c.cover.new.self ≡ sealed at.0 (length (program_bytes is)) (laid (sealed_cells cells seal) at (program_bytes is)) =
-    covered ∙ memory_laid below written seal.base.0 seal.length n at (program_bytes is) (m.unsealed old) c.lay_program.ensures.after a.long in
+    covered ∙ memory_laid below written seal.range.base.0 seal.range.length n at (program_bytes is) (m.unsealed old) c.lay_program.ensures.after a.long in
     let story : story_of (sealed_cells cells) (numbered_words words) c.forget.new.self ≡ begun (loaded_view at is (present s)) =
     c.forget.ensures ∙ (λ i. begun (view (c.new-self.ensures i) (memory i) (numbered_words words m.system.ports))) in
     let program = program_laid at (program_of m.layout) is (program_of c.lay_out.new.self) old a.some a.brief c.lay_out.ensures.after in
