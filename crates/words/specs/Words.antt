@@ -1,5 +1,5 @@
 -- The word at an address: four bytes, lowest first. Assumes nothing.
-use Rattle.std.specs.Prelude.{◌≡◌, ℕ, ◌+◌, ◌*◌, ◌/◌, ◌%◌, cond, is_ok, Some, Ok, Err, Result}
+use Rattle.std.specs.Prelude.{◌≡◌, ℕ, ◌+◌, ◌*◌, ◌/◌, ◌%◌, List, [], ◌∷◌, cond, is_ok, Some, Ok, Err, Result}
 use Rattle.memory.specs.Access.{reading, writing}
 use Rattle.memory.specs.Cells.{Cell, shown, written}
 use Rattle.memory.specs.declared.fault.StoreFault.{StoreFault}
@@ -24,6 +24,14 @@ byte_reading m a = carried (reading (m a.0) a)
 
 abbrev pub byte_writing : (ℕ → Cell) → Address → Result (Unit {0}) WordFault
 byte_writing m a = carried (writing (m a.0) a)
+
+-- what a reading of the four bytes from a on answers
+abbrev pub bytes_reading : (ℕ → Cell) → Address → Result (List ℕ) WordFault
+bytes_reading m a =
+    and_then (byte_reading m a) λ w.
+    and_then (byte_reading m (later a 1)) λ x.
+    and_then (byte_reading m (later a 2)) λ y.
+    and_then (byte_reading m (later a 3)) λ z. Ok (w ∷ x ∷ y ∷ z ∷ [])
 
 -- the number of four bytes, lowest first
 abbrev pub number : ℕ → ℕ → ℕ → ℕ → Number

@@ -1,21 +1,31 @@
 // Reading and writing the word at an address.
 ghost use Rattle.std.specs.Prelude.{◌≡◌, IfOk};
-ghost use Rattle.words.specs.Words.{Shows, word_reading, word_verified, word_writing, word_written};
+ghost use Rattle.words.specs.Words.{Shows, bytes_reading, word_reading, word_verified, word_writing, word_written};
 
 use crate::fault::WordFault;
 use memory::{Readable, Store};
 use quantity::{Address, Number};
 
-// The word of the bytes at the address and the three behind it, wrapping at 2^32.
-pub fn read_word<M: Readable>(memory: &M, at: Address) -> Result<Number, WordFault>
-    ensures answers { result ≡ word_reading (M.Readable.cells memory.now) at }
-    ensures shows { IfOk result (λ n. Shows (M.Readable.cells memory.now) at n.0) }
+// The bytes at the address and the three behind it, wrapping at 2^32.
+// Here and below each byte has a line of its own, since the first that cannot be taken names the
+// refusal, and the library's `try_map` does not promise that its error is the first.
+pub fn read_bytes<M: Readable>(memory: &M, at: Address) -> Result<[u8; 4], WordFault>
+    ensures { result ≡ bytes_reading (M.Readable.cells memory.now) at }
 {
     let a = memory.read(at)?;
     let b = memory.read(at.later(1))?;
     let c = memory.read(at.later(2))?;
     let d = memory.read(at.later(3))?;
-    Ok(Number(u32::from_le_bytes([a, b, c, d])))
+    Ok([a, b, c, d])
+}
+
+// The word of these bytes.
+pub fn read_word<M: Readable>(memory: &M, at: Address) -> Result<Number, WordFault>
+    ensures answers { result ≡ word_reading (M.Readable.cells memory.now) at }
+    ensures shows { IfOk result (λ n. Shows (M.Readable.cells memory.now) at n.0) }
+{
+    let bytes = read_bytes(memory, at)?;
+    Ok(Number(u32::from_le_bytes(bytes)))
 }
 
 // What a writing of the word would answer; nothing changes.
