@@ -1,11 +1,11 @@
 -- What the writing of one word makes of the words of a bank. Assumes nothing.
-use Rattle.std.proofs.Common.{◌≡◌, ℕ, ◌*◌, ◌^◌, ◌<◌, is_ok, Some, None, Ok, Err, sym, ap, ◌∙◌, arith}
+use Rattle.std.proofs.Common.{◌≡◌, ℕ, ◌*◌, ◌^◌, ◌<◌, is_ok, Some, None, Ok, Err, Result, refl, sym, ap, ◌∙◌, arith}
 use mathlib.Core.Path.{fun_ext}
 use Rattle.std.proofs.lemmas.Nat.{mod-pow-add}
 use Rattle.std.proofs.lemmas.Bool.{cond-false}
 use Rattle.std.proofs.lemmas.Bool.Decides.{nat_tests}
 use Rattle.memory.specs.Cells.{Cell}
-use Rattle.ports.specs.Banks.{free_word, mapped, replaced, setting}
+use Rattle.ports.specs.Banks.{free_word, mapped, placing, replaced}
 use Rattle.quantity.specs.Sums.{later}
 use Rattle.quantity.specs.declared.Address.{Address}
 use Rattle.quantity.specs.declared.Port.{Port}
@@ -23,25 +23,28 @@ other_word m base p n low q h ne = grind (arith, nat_tests)
 
 module _ (m m' : ℕ → Cell) (base a : Address) (p n count : ℕ) (low : p < 256) (counted : p < count) (at : a ≡ later base (4 * p)) (after : m' ≡ word_written m a n) where
   -- where the word was written
-  pub port_taken : (q : Port) → Ok tt ≡ word_writing m a → Ok tt ≡ setting (mapped count base m p) q
-  port_taken q ok =
-      let e : word_writing m (later base (4 * p)) ≡ Ok tt = ap (word_writing m) (sym at) ∙ sym ok in
-      grind (arith, nat_tests)
-
-  pub port_set : Ok tt ≡ word_writing m a → n < 2 ^ 32 → mapped count base m' ≡ replaced (mapped count base m) p n
+  port_set : word_writing m a ≡ Ok tt → n < 2 ^ 32 → mapped count base m' ≡ replaced (mapped count base m) p n
   port_set ok fits =
-      let e : word_writing m (later base (4 * p)) ≡ Ok tt = ap (word_writing m) (sym at) ∙ sym ok in
-      let f : m' ≡ word_put m (later base (4 * p)) n = put_where_taken m m' a n ok after ∙ ap (λ x. word_put m x n) at in
+      let e : word_writing m (later base (4 * p)) ≡ Ok tt = ap (word_writing m) (sym at) ∙ ok in
+      let f : m' ≡ word_put m (later base (4 * p)) n = put_where_taken m m' a n (sym ok) after ∙ ap (λ x. word_put m x n) at in
       let s = same_word m (later base (4 * p)) n fits e in
       ap (mapped count base) f ∙ fun_ext λ q. let o = other_word m base p n low q in grind (arith, nat_tests)
 
   -- where it was refused
-  pub port_none : (f : WordFault) → Err f ≡ word_writing m a → mapped count base m p ≡ None
-  port_none f ok =
-      let e : word_writing m (later base (4 * p)) ≡ Err f = ap (word_writing m) (sym at) ∙ sym ok in
-      grind (arith, nat_tests)
+  port_stays : (f : WordFault) → word_writing m a ≡ Err f → mapped count base m' ≡ replaced (mapped count base m) p n
+  port_stays f refused =
+      let e : word_writing m (later base (4 * p)) ≡ Err f = ap (word_writing m) (sym at) ∙ refused in
+      let z : mapped count base m p ≡ None = grind (arith, nat_tests) in
+      ap (mapped count base) (after ∙ cond-false (is_ok (word_writing m a)) _ _ (ap is_ok refused)) ∙ fun_ext λ q. grind (arith, nat_tests)
 
-  pub port_stays : (f : WordFault) → Err f ≡ word_writing m a → mapped count base m' ≡ replaced (mapped count base m) p n
-  port_stays f ok =
-      let z = port_none f ok in
-      ap (mapped count base) (after ∙ cond-false (is_ok (word_writing m a)) _ _ (ap is_ok (sym ok))) ∙ fun_ext λ q. grind (arith, nat_tests)
+  port_either : n < 2 ^ 32 → (r : Result (Unit {0}) WordFault) → word_writing m a ≡ r → mapped count base m' ≡ replaced (mapped count base m) p n
+  port_either fits (Ok _) e = port_set e fits
+  port_either fits (Err f) e = port_stays f e
+
+-- a bank after a word was written, or refused, where the word of one of its ports lies
+pub port_after : (m m' : ℕ → Cell) (base a : Address) (p : Port) (n count : ℕ) → n < 2 ^ 32 → Ok a ≡ placing count base p → m' ≡ word_written m a n → mapped count base m' ≡ replaced (mapped count base m) p.0 n
+port_after m m' base a p n count fits placed after =
+    let low : p.0 < 256 = grind (arith, nat_tests) in
+    let counted : p.0 < count = grind (arith, nat_tests) in
+    let at : a ≡ later base (4 * p.0) = grind (arith, nat_tests) in
+    port_either m m' base a p.0 n count low counted at after fits (word_writing m a) refl

@@ -1,5 +1,5 @@
 -- What a port bank means: for each port number, a word or nothing. Assumes nothing.
-use Rattle.std.specs.Prelude.{ℕ, ◌+◌, ◌*◌, ◌^◌, Bool, cond, ◌&&◌, List, Some, None, Ok, Err, Option, Result, ◌==◌, nat_lt, slice_index}
+use Rattle.std.specs.Prelude.{ℕ, ◌+◌, ◌*◌, ◌^◌, Bool, cond, ◌&&◌, List, Some, None, Ok, Err, Option, Result, ◌==◌, nat_lt, slice_index_or}
 use Rattle.memory.specs.Cells.{Cell, fixed, free, nothing}
 use Rattle.ports.specs.declared.fault.PortFault.{PortFault}
 use Rattle.ports.specs.declared.fault.PortFault.TheVariants.{Absent}
@@ -36,8 +36,12 @@ numbered f q = cond (nat_lt q (2 ^ 32)) (f q) None
 -- Table.
 
 -- the words of a table of 64
-abbrev pub tabled : List ℕ → ℕ → Option ℕ
-tabled ws q = cond (nat_lt q 64) (Some (slice_index ws q)) None
+abbrev pub tabled : List Number → ℕ → Option ℕ
+tabled ws q = cond (nat_lt q 64) (Some (slice_index_or ws q (record { 0 = 0 })).0) None
+
+-- which word of a table is that of port p, or a refusal
+abbrev pub finding : Port → Result ℕ PortFault
+finding p = cond (nat_lt p.0 64) (Ok p.0) (Err (Absent p))
 
 -- Mapped.
 
@@ -62,6 +66,10 @@ free_word m a = word_of (free_byte (m a.0)) (free_byte (m (later a 1).0)) (free_
 -- the ports below the count and below 256
 abbrev pub within_bank : ℕ → ℕ → Bool
 within_bank count q = nat_lt q count && nat_lt q 256
+
+-- where the word of port p lies, or a refusal
+abbrev pub placing : ℕ → Address → Port → Result Address PortFault
+placing count base p = cond (within_bank count p.0) (Ok (later base (4 * p.0))) (Err (Absent p))
 
 -- the words of a store from `base` on, `count` of them and at most 256
 abbrev pub mapped : ℕ → Address → (ℕ → Cell) → ℕ → Option ℕ

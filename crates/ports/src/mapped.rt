@@ -1,7 +1,6 @@
 // A bank whose ports are words of a store.
-ghost use Rattle.std.specs.Prelude.{◌≡◌, ◌*◌, ◌<◌};
-ghost use Rattle.ports.specs.Banks.{mapped};
-ghost use Rattle.quantity.specs.Sums.{later};
+ghost use Rattle.std.specs.Prelude.{◌≡◌};
+ghost use Rattle.ports.specs.Banks.{mapped, placing};
 
 use crate::Ports;
 use crate::fault::PortFault;
@@ -26,40 +25,31 @@ impl<S> Mapped<S> {
     {
         Mapped { count, base, store }
     }
-}
 
-// Where the word of a port lies.
-fn address_of(base: Address, port: Port) -> Address
-    requires { port.0 < 256 }
-    ensures { result ≡ later base (4 * port.0) }
-{
-    base.later(4 * port.0)
+    // Where the word of a port lies, or a refusal where the bank has no such port.
+    fn address_of(&self, port: Port) -> Result<Address, PortFault>
+        ensures { result ≡ placing self.now.count self.now.base port }
+    {
+        if port.0 < self.count && port.0 < 256 {
+            Ok(self.base.later(4 * port.0))
+        } else {
+            Err(PortFault::Absent(port))
+        }
+    }
 }
 
 impl<S: Store> Ports for Mapped<S> {
     ghost words = { λ s. mapped s.count s.base (S.Readable.cells s.store) };
 
     fn get(&self, port: Port) -> Result<Number, PortFault> {
-        if port.0 < self.count && port.0 < 256 {
-            let at = address_of(self.base, port);
-            if word_writable(&self.store, at).is_ok() {
-                if let Ok(word) = read_word(&self.store, at) {
-                    return Ok(word);
-                }
-            }
-        }
-        Err(PortFault::Absent(port))
+        let at = self.address_of(port)?;
+        word_writable(&self.store, at)
+            .and_then(|()| read_word(&self.store, at))
+            .map_err(|_| PortFault::Absent(port))
     }
 
     fn set(&mut self, port: Port, word: Number) -> Result<(), PortFault> {
-        if port.0 < self.count && port.0 < 256 {
-            let at = address_of(self.base, port);
-            match write_word(&mut self.store, at, word) {
-                Ok(()) => Ok(()),
-                Err(_) => Err(PortFault::Absent(port)),
-            }
-        } else {
-            Err(PortFault::Absent(port))
-        }
+        let at = self.address_of(port)?;
+        write_word(&mut self.store, at, word).map_err(|_| PortFault::Absent(port))
     }
 }

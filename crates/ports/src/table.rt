@@ -1,6 +1,7 @@
 // A table of the ports 0 to 63.
-ghost use Rattle.std.specs.Prelude.{◌≡◌, replicate, nat_lt};
-ghost use Rattle.ports.specs.Banks.{tabled};
+ghost use Rattle.std.specs.Prelude.{◌≡◌, replicate};
+ghost use Rattle.ports.specs.Banks.{finding, tabled};
+ghost use Rattle.quantity.specs.declared.Number.{Number};
 
 use crate::Ports;
 use crate::fault::PortFault;
@@ -8,42 +9,42 @@ use quantity::{Number, Port};
 
 #[derive(Drop)]
 pub struct Table {
-    words: [u32; 64],
+    words: [Number; 64],
 }
 
 impl Table {
     // A table whose words are all 0.
     pub fn new() -> Table
-        ensures { result.words ≡ replicate 64 0 }
+        ensures { result.words ≡ replicate 64 (record { 0 = 0 }) }
     {
-        Table { words: [0; 64] }
+        Table {
+            words: [Number(0); 64],
+        }
     }
 }
 
-// Whether the table has this port.
-fn has(port: Port) -> bool
-    ensures { result ≡ nat_lt port.0 64 }
+// Which of the words is a port's, or a refusal where the table has no such port.
+fn index_of(port: Port) -> Result<usize, PortFault>
+    ensures { result ≡ finding port }
 {
-    port.0 < 64
+    if port.0 < 64 {
+        Ok(port.0 as usize)
+    } else {
+        Err(PortFault::Absent(port))
+    }
 }
 
 impl Ports for Table {
     ghost words = { λ s. tabled s.words };
 
     fn get(&self, port: Port) -> Result<Number, PortFault> {
-        if has(port) {
-            Ok(Number(self.words[port.0 as usize]))
-        } else {
-            Err(PortFault::Absent(port))
-        }
+        let index = index_of(port)?;
+        Ok(self.words[index])
     }
 
     fn set(&mut self, port: Port, word: Number) -> Result<(), PortFault> {
-        if has(port) {
-            self.words[port.0 as usize] = word.0;
-            Ok(())
-        } else {
-            Err(PortFault::Absent(port))
-        }
+        let index = index_of(port)?;
+        self.words[index] = word;
+        Ok(())
     }
 }
