@@ -1,3 +1,5 @@
+pub mod Bytes
+pub mod Cursors
 pub mod Exact
 pub mod Fronts
 pub mod Instructions

@@ -1,5 +1,5 @@
 -- Reading an instruction from left to right, up to the first fault. Assumes nothing.
-use Rattle.std.specs.Prelude.{ℕ, ◌+◌, ◌*◌, ◌/◌, ◌%◌, Bool, true, false, cond, Some, None, Ok, Err, Option, Result, ◌==◌}
+use Rattle.std.specs.Prelude.{ℕ, zero, suc, ◌+◌, ◌*◌, ◌/◌, ◌%◌, Bool, true, false, cond, List, [], ◌∷◌, Some, None, Ok, Err, Option, Result, ◌==◌}
 use Rattle.std.proofs.Common.{arith, lt→ltb, to_z}
 use Rattle.std.specs.Int.{w16}
 use Rattle.std.proofs.lemmas.Nat.{mod_below}
@@ -51,6 +51,11 @@ taken (Err f) q = Err f
 abbrev pub byte_at : Bytes → ℕ → Read ℕ
 byte_at s p = known (s p) (fault Missing p) λ b. Ok (b, p + 1)
 
+-- so many bytes
+abbrev pub bytes_at : ℕ → Bytes → ℕ → Read (List ℕ)
+bytes_at zero s p = Ok ([], p)
+bytes_at (suc n) s p = after (byte_at s p) λ b q. after (bytes_at n s q) λ bs t. Ok (b ∷ bs, t)
+
 -- a byte by what it means; `judge` is told the byte and its place
 abbrev pub judged_at : {X : Type 0} → (ℕ → ℕ → Result X ReadFault) → Bytes → ℕ → Read X
 judged_at judge s p = after (byte_at s p) λ b q. taken (judge b p) q
@@ -90,6 +95,9 @@ address n = record { 0 = n }
 -- the displacement of two bytes, in two's complement
 abbrev pub displacement : ℕ → Displacement
 displacement n = record { 0 = to_z w16 n }
+
+abbrev pub displacement_at : Bytes → ℕ → Read Displacement
+displacement_at s p = after (two_at s p) λ n q. Ok (displacement n, q)
 
 -- the operand of a mode and a register, whose value bytes are read
 abbrev pub valued_at : Mode → reg.Register → Bytes → ℕ → Read Operand

@@ -1,3 +1,4 @@
+pub mod Cursors
 pub mod Decoding
 pub mod Encoding
 pub mod Faults

@@ -1,10 +1,7 @@
-// Decoding from left to right, up to the first fault. Each function answers with what it read and
-// the place behind it.
-ghost use Rattle.std.specs.Prelude.{◌≡◌, Some};
-ghost use Rattle.operands.specs.Modes.{mode};
-ghost use Rattle.cisca.specs.Table.{group as group_of};
-ghost use Rattle.codec.specs.Faults.{fault as fault_at};
-ghost use Rattle.codec.specs.Decoding.{byte_at, clean, decode, fits_behind, four_at, judged_at, judged_mode, judged_operation, one_at, operand_at, operands_at, pair_at, read_parts, two_at, valued_at};
+// Decoding from left to right, up to the first fault.
+ghost use Rattle.std.specs.Prelude.{◌≡◌};
+ghost use Rattle.codec.specs.Decoding.{byte_at, bytes_at, clean, decode, displacement_at, fits_behind, four_at, judged_at, judged_mode, judged_operation, operand_at, operands_at, read_parts, taken, two_at, valued_at};
+ghost use Rattle.codec.specs.Cursors.{Reads};
 
 use crate::fault::{Place, ReadCause, ReadFault};
 use crate::source::Source;
@@ -23,66 +20,6 @@ struct ModeByte {
     register: Register,
 }
 
-fn fault(cause: ReadCause, offset: usize) -> ReadFault
-    ensures { result ≡ fault_at cause offset }
-{
-    ReadFault {
-        cause,
-        place: Place { offset },
-    }
-}
-
-fn byte<S: Source>(source: &S, at: usize) -> Result<(u8, usize), ReadFault>
-    ensures { result ≡ byte_at (S.Source.shows source.now) at }
-{
-    match source.byte_at(at) {
-        Some(byte) => Ok((byte, at + 1)),
-        None => Err(fault(ReadCause::Missing, at)),
-    }
-}
-
-fn two_bytes<S: Source>(source: &S, at: usize) -> Result<(u16, usize), ReadFault>
-    ensures { result ≡ two_at (S.Source.shows source.now) at }
-{
-    let (low, at) = byte(source, at)?;
-    let (high, at) = byte(source, at)?;
-    Ok((u16::from_le_bytes([low, high]), at))
-}
-
-fn four_bytes<S: Source>(source: &S, at: usize) -> Result<(u32, usize), ReadFault>
-    ensures { result ≡ four_at (S.Source.shows source.now) at }
-{
-    let (low, at) = two_bytes(source, at)?;
-    let (high, at) = two_bytes(source, at)?;
-    Ok((u32::from(low) + u32::from(high) * 0x1_0000, at))
-}
-
-fn operation_of(byte: u8, at: usize) -> Result<Operation, ReadFault>
-    ensures { result ≡ judged_operation byte at }
-{
-    match Operation::try_from(byte) {
-        Ok(operation) => Ok(operation),
-        Err(_) => Err(fault(ReadCause::UnknownOperation, at)),
-    }
-}
-
-fn operation<S: Source>(source: &S, at: usize) -> Result<(Operation, usize), ReadFault>
-    ensures { result ≡ judged_at judged_operation (S.Source.shows source.now) at }
-{
-    let (byte, next) = byte(source, at)?;
-    Ok((operation_of(byte, at)?, next))
-}
-
-// Whether a mode may stand at first, or behind an operand of the mode before.
-fn fits_behind(group: Group, before: Option<Mode>, mode: Mode) -> bool
-    ensures { result ≡ fits_behind group before mode }
-{
-    match before {
-        None => group.first_fits(mode),
-        Some(first) => group.second_fits(first, mode),
-    }
-}
-
 // Whether the digit may stand beside the mode.
 fn is_clean(mode: Mode, digit: u8) -> bool
     ensures { result ≡ clean mode digit }
@@ -90,161 +27,163 @@ fn is_clean(mode: Mode, digit: u8) -> bool
     !mode.is_unregistered() || digit == 0
 }
 
-// A mode byte by its meaning: tested for an unknown mode, for the pairing, then for the digit.
-fn mode_byte_of(
+// Where an operand stands: at first, or behind an operand of the mode before.
+#[derive(Clone, Copy)]
+struct Slot {
     group: Group,
     before: Option<Mode>,
-    byte: u8,
-    at: usize,
-) -> Result<ModeByte, ReadFault>
-    ensures { result ≡ judged_mode (fits_behind group before) byte at }
-{
-    let Ok(mode) = Mode::try_from(byte / 16) else {
-        return Err(fault(ReadCause::UnknownMode, at));
-    };
-    if !fits_behind(group, before, mode) {
-        return Err(fault(ReadCause::Pairing, at));
-    }
-    if !is_clean(mode, byte % 16) {
-        return Err(fault(ReadCause::Digit, at));
-    }
-    Ok(ModeByte {
-        mode,
-        register: Register::new(byte),
-    })
 }
 
-fn mode_byte<S: Source>(
-    group: Group,
-    before: Option<Mode>,
-    source: &S,
-    at: usize,
-) -> Result<(ModeByte, usize), ReadFault>
-    ensures { result ≡ judged_at (judged_mode (fits_behind group before)) (S.Source.shows source.now) at }
-{
-    let (byte, next) = byte(source, at)?;
-    Ok((mode_byte_of(group, before, byte, at)?, next))
-}
+impl Slot {
+    // Whether an operand of this mode may stand here.
+    fn fits(self, mode: Mode) -> bool
+        ensures { result ≡ fits_behind self.group self.before mode }
+    {
+        match self.before {
+            None => self.group.first_fits(mode),
+            Some(first) => self.group.second_fits(first, mode),
+        }
+    }
 
-// The operand of a mode and a register, whose value bytes are read.
-fn valued<S: Source>(
-    mode: Mode,
-    register: Register,
-    source: &S,
-    at: usize,
-) -> Result<(Operand, usize), ReadFault>
-    ensures { result ≡ valued_at mode register (S.Source.shows source.now) at }
-{
-    match mode {
-        Mode::Immediate => {
-            let (n, at) = four_bytes(source, at)?;
-            Ok((Operand::Immediate(Number(n)), at))
+    // A mode byte by its meaning: tested for an unknown mode, for the pairing, then for the digit.
+    fn mode_byte(self, byte: u8, place: Place) -> Result<ModeByte, ReadFault>
+        ensures { result ≡ judged_mode (fits_behind self.group self.before) byte place.offset }
+    {
+        let mode =
+            Mode::try_from(byte / 16).map_err(|_| ReadCause::UnknownMode.at(place))?;
+        if !self.fits(mode) {
+            return Err(ReadCause::Pairing.at(place));
         }
-        Mode::Register => Ok((Operand::Register(register), at)),
-        Mode::Direct => {
-            let (n, at) = four_bytes(source, at)?;
-            Ok((Operand::Direct(Address(n)), at))
+        if !is_clean(mode, byte % 16) {
+            return Err(ReadCause::Digit.at(place));
         }
-        Mode::Indirect => Ok((Operand::Indirect(register), at)),
-        Mode::Relative => {
-            let (n, at) = two_bytes(source, at)?;
-            Ok((
-                Operand::Relative(register, Displacement(n.cast_signed())),
-                at,
-            ))
-        }
-        Mode::Indexed => {
-            let (n, at) = four_bytes(source, at)?;
-            Ok((Operand::Indexed(Address(n), register), at))
-        }
-        Mode::PcRelative => {
-            let (n, at) = two_bytes(source, at)?;
-            Ok((Operand::PcRelative(Displacement(n.cast_signed())), at))
-        }
+        Ok(ModeByte {
+            mode,
+            register: Register::new(byte),
+        })
     }
 }
 
-fn operand<S: Source>(
-    group: Group,
-    before: Option<Mode>,
-    source: &S,
-    at: usize,
-) -> Result<(Operand, usize), ReadFault>
-    ensures { result ≡ operand_at (fits_behind group before) (S.Source.shows source.now) at }
-{
-    let (marked, at) = mode_byte(group, before, source, at)?;
-    valued(marked.mode, marked.register, source, at)
+// A source with a place in it, which moves over each byte that is read. Behind a refusal the place
+// has no meaning.
+#[derive(Drop)]
+pub(crate) struct Cursor<'a, S: Source> {
+    pub(crate) source: &'a S,
+    pub(crate) place: Place,
 }
 
-// The operand behind another one.
-fn operand_behind<S: Source>(
-    group: Group,
-    first: Operand,
-    source: &S,
-    at: usize,
-) -> Result<(Operand, usize), ReadFault>
-    ensures { result ≡ operand_at (fits_behind group (Some (mode first))) (S.Source.shows source.now) at }
-{
-    operand(group, Some(first.mode()), source, at)
-}
-
-fn one_operand<S: Source>(
-    group: Group,
-    source: &S,
-    at: usize,
-) -> Result<((Option<Operand>, Option<Operand>), usize), ReadFault>
-    ensures { result ≡ one_at group (S.Source.shows source.now) at }
-{
-    let (first, at) = operand(group, None, source, at)?;
-    Ok(((Some(first), None), at))
-}
-
-fn two_operands<S: Source>(
-    group: Group,
-    source: &S,
-    at: usize,
-) -> Result<((Option<Operand>, Option<Operand>), usize), ReadFault>
-    ensures { result ≡ pair_at group (S.Source.shows source.now) at }
-{
-    let (first, at) = operand(group, None, source, at)?;
-    let (second, at) = operand_behind(group, first, source, at)?;
-    Ok(((Some(first), Some(second)), at))
-}
-
-// As many operands as the group has.
-fn operands_in<S: Source>(
-    group: Group,
-    source: &S,
-    at: usize,
-) -> Result<((Option<Operand>, Option<Operand>), usize), ReadFault>
-    ensures { result ≡ operands_at group (S.Source.shows source.now) at }
-{
-    match group.operand_count() {
-        0 => Ok(((None, None), at)),
-        1 => one_operand(group, source, at),
-        _ => two_operands(group, source, at),
+impl<S: Source> Cursor<'_, S> {
+    fn byte(&mut self) -> Result<u8, ReadFault>
+        ensures { Reads S.Source.shows byte_at self.old self.new result }
+    {
+        let byte = self
+            .source
+            .byte_at(self.place.offset)
+            .ok_or(ReadCause::Missing.at(self.place))?;
+        self.place.offset += 1;
+        Ok(byte)
     }
-}
 
-// The operands of an operation.
-fn operands<S: Source>(
-    operation: Operation,
-    source: &S,
-    at: usize,
-) -> Result<((Option<Operand>, Option<Operand>), usize), ReadFault>
-    ensures { result ≡ operands_at (group_of operation) (S.Source.shows source.now) at }
-{
-    operands_in(operation.group(), source, at)
-}
+    // The next `N` bytes.
+    fn bytes<const N: usize>(&mut self) -> Result<[u8; N], ReadFault>
+        ensures { Reads S.Source.shows (bytes_at N) self.old self.new result }
+    {
+        let mut bytes = [0; N];
+        for byte in &mut bytes {
+            *byte = self.byte()?;
+        }
+        Ok(bytes)
+    }
 
-// The instruction at a place, and the place behind it.
-pub fn instruction_at<S: Source>(source: &S, at: usize) -> Result<(Instruction, usize), ReadFault>
-    ensures { read_parts result ≡ decode (S.Source.shows source.now) at }
-{
-    let (operation, at) = operation(source, at)?;
-    let ((first, second), at) = operands(operation, source, at)?;
-    match Instruction::new(operation, first, second) {
-        Ok(instruction) => Ok((instruction, at)),
-        Err(_) => unreachable(),
+    // A number of two bytes, lowest first.
+    fn short(&mut self) -> Result<u16, ReadFault>
+        ensures { Reads S.Source.shows two_at self.old self.new result }
+    {
+        Ok(u16::from_le_bytes(self.bytes()?))
+    }
+
+    // A number of four bytes, lowest first.
+    fn word(&mut self) -> Result<u32, ReadFault>
+        ensures { Reads S.Source.shows four_at self.old self.new result }
+    {
+        Ok(u32::from_le_bytes(self.bytes()?))
+    }
+
+    fn operation(&mut self) -> Result<Operation, ReadFault>
+        ensures { Reads S.Source.shows (judged_at judged_operation) self.old self.new result }
+    {
+        let place = self.place;
+        let byte = self.byte()?;
+        Operation::from_code(byte).ok_or(ReadCause::UnknownOperation.at(place))
+    }
+
+    fn mode_byte(&mut self, slot: Slot) -> Result<ModeByte, ReadFault>
+        ensures { Reads S.Source.shows (judged_at (judged_mode (fits_behind slot.group slot.before))) self.old self.new result }
+    {
+        let place = self.place;
+        let byte = self.byte()?;
+        slot.mode_byte(byte, place)
+    }
+
+    // The operand of a mode byte, whose value bytes are read.
+    fn valued(&mut self, marked: ModeByte) -> Result<Operand, ReadFault>
+        ensures { Reads S.Source.shows (valued_at marked.mode marked.register) self.old self.new result }
+    {
+        let register = marked.register;
+        Ok(match marked.mode {
+            Mode::Immediate => Operand::Immediate(Number(self.word()?)),
+            Mode::Register => Operand::Register(register),
+            Mode::Direct => Operand::Direct(Address(self.word()?)),
+            Mode::Indirect => Operand::Indirect(register),
+            Mode::Relative => Operand::Relative(register, self.displacement()?),
+            Mode::Indexed => Operand::Indexed(Address(self.word()?), register),
+            Mode::PcRelative => Operand::PcRelative(self.displacement()?),
+        })
+    }
+
+    fn displacement(&mut self) -> Result<Displacement, ReadFault>
+        ensures { Reads S.Source.shows displacement_at self.old self.new result }
+    {
+        Ok(Displacement(self.short()?.cast_signed()))
+    }
+
+    fn operand(&mut self, slot: Slot) -> Result<Operand, ReadFault>
+        ensures { Reads S.Source.shows (operand_at (fits_behind slot.group slot.before)) self.old self.new result }
+    {
+        let marked = self.mode_byte(slot)?;
+        self.valued(marked)
+    }
+
+    // As many operands as the group has.
+    fn operands(&mut self, group: Group) -> Result<(Option<Operand>, Option<Operand>), ReadFault>
+        ensures { Reads S.Source.shows (operands_at group) self.old self.new result }
+    {
+        let first = Slot {
+            group,
+            before: None,
+        };
+        match group {
+            Group::Bare => Ok((None, None)),
+            Group::Single | Group::Target | Group::Jump => Ok((Some(self.operand(first)?), None)),
+            Group::Pair | Group::Inward | Group::Outward => {
+                let first = self.operand(first)?;
+                let second = self.operand(Slot {
+                    group,
+                    before: Some(first.mode()),
+                })?;
+                Ok((Some(first), Some(second)))
+            }
+        }
+    }
+
+    // The instruction at the place.
+    pub(crate) fn instruction(&mut self) -> Result<Instruction, ReadFault>
+        ensures same { self.new.source ≡ self.old.source }
+        ensures reads { read_parts (taken result self.new.place.offset) ≡ decode (S.Source.shows self.old.source.now) self.old.place.offset }
+    {
+        let operation = self.operation()?;
+        let (first, second) = self.operands(operation.group())?;
+        // What is read goes together.
+        Ok(Instruction::new(operation, first, second).unwrap())
     }
 }

@@ -1,6 +1,6 @@
 // Why a reading or a writing is turned away.
 ghost use Rattle.std.specs.Prelude.{◌≡◌};
-ghost use Rattle.codec.specs.Faults.{number_of, write_number};
+ghost use Rattle.codec.specs.Faults.{fault, number_of, write_number};
 
 // A place in the input: how many bytes stand before it.
 #[derive(Clone, Copy, PartialEq, Eq, Debug)]
@@ -21,6 +21,15 @@ pub enum ReadCause {
     Pairing,
     // The low four bits are not 0 in a mode that names no register.
     Digit,
+}
+
+impl ReadCause {
+    // The refusal of the byte at a place.
+    pub(crate) fn at(self, place: Place) -> ReadFault
+        ensures { result ≡ fault self place.offset }
+    {
+        ReadFault { cause: self, place }
+    }
 }
 
 // A refused reading, with the place of the byte at fault.

@@ -3,7 +3,7 @@ ghost use Rattle.std.specs.Prelude.{◌≡◌};
 ghost use Rattle.codec.specs.Laws.{ReadsBack, StopsAtFirstFault, WritesBack};
 ghost use Rattle.codec.specs.Readers.{answer, ended, place_after, read};
 
-use crate::decode::instruction_at;
+use crate::decode::Cursor;
 use crate::fault::{Place, ReadFault};
 use crate::source::Source;
 use cisca::instruction::Instruction;
@@ -28,8 +28,12 @@ pub fn read_next<S: Source>(source: &S, place: &mut Place) -> Result<Instruction
     ensures answers { read result ≡ answer (S.Source.shows source.now) place.old.offset }
     ensures moves { place.new.offset ≡ place_after (S.Source.shows source.now) place.old.offset }
 {
-    let (instruction, next) = instruction_at(source, place.offset)?;
-    place.offset = next;
+    let mut cursor = Cursor {
+        source,
+        place: *place,
+    };
+    let instruction = cursor.instruction()?;
+    *place = cursor.place;
     Ok(instruction)
 }
 
