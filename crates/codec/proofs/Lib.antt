@@ -6,5 +6,4 @@ pub mod Instructions
 pub mod Laws
 pub mod Numbers
 pub mod Operands
-pub mod Places
 pub mod Prefixes
