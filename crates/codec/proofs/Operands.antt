@@ -6,10 +6,12 @@ use Rattle.std.proofs.lemmas.Int.{of_z-to_z, to_z-of_z}
 use Rattle.std.proofs.lemmas.Bool.{eqb-true, ltb-false}
 use Rattle.operands.proofs.Modes.{mode_found, number_finds}
 use Rattle.operands.proofs.Same.{same_register}
-use Rattle.operands.specs.Modes.{mode, mode_number, mode_of}
+use Rattle.std.specs.Prelude.{MatchResult}
+use Rattle.operands.specs.Modes.{ModeOf, mode, mode_number, mode_of}
 use Rattle.operands.specs.Widths.{short, within}
 use Rattle.operands.specs.declared.mode.Mode.{Mode}
 use Rattle.operands.specs.declared.mode.Mode.TheVariants as m
+use Rattle.operands.specs.declared.mode.UnknownMode.{UnknownMode}
 use Rattle.operands.specs.declared.operand.Operand.{Operand}
 use Rattle.operands.specs.declared.operand.Operand.TheVariants.{Direct, Immediate, Indexed, Indirect, PcRelative, Register, Relative}
 use Rattle.operands.specs.declared.register.Register as reg
@@ -25,6 +27,11 @@ use Rattle.codec.proofs.Exact.{Exact, judged, known_ok, mapped, not_both, sequen
 use Rattle.codec.proofs.Numbers.{four_exact, two_exact}
 
 -- The mode byte.
+
+-- a number that is taken as a mode is that mode's
+pub mode_taken : (n : ℕ) (r : Result Mode UnknownMode) (m : Mode) → ModeOf n r → MatchResult r (λ x. ◌≡◌ {A = Result Mode ReadFault} (Ok m) (Ok x)) (λ e. ⊥) → mode_of n ≡ Some m
+mode_taken n (Ok x) m h k = h ∙ ap Some (sym (un_ok k))
+mode_taken n (Err e) m h k = absurd k
 
 abbrev pub marked : Mode → reg.Register → ModeByte
 marked m r = record { mode = m; register = r }

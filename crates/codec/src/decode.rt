@@ -49,8 +49,7 @@ impl Slot {
     fn mode_byte(self, byte: u8, place: Place) -> Result<ModeByte, ReadFault>
         ensures { result ≡ judged_mode (fits_behind self.group self.before) byte place.offset }
     {
-        let mode =
-            Mode::try_from(byte / 16).map_err(|_| ReadCause::UnknownMode.at(place))?;
+        let mode = Mode::try_from(byte / 16).map_err(|_| ReadCause::UnknownMode.at(place))?;
         if !self.fits(mode) {
             return Err(ReadCause::Pairing.at(place));
         }
