@@ -1,4 +1,5 @@
 pub mod Comparing
+pub mod Equal
 pub mod Filling
 pub mod Laws
 pub mod Reading

@@ -1,5 +1,7 @@
 -- The writing of a whole program, record by record. Assumes nothing.
-use Rattle.std.proofs.Common.{◌≡◌, ℕ, ◌+◌, ◌-◌, ◌<◌, ◌≤◌, ltb, List, [], ◌++◌, length, get_or, take, drop, Ok, Err, sym, refl, ap, ◌∙◌, inl, inr, append_assoc, append-nil, arith, length-append, length-drop}
+use Rattle.std.proofs.Common.{◌≡◌, ℕ, ◌+◌, ◌-◌, ◌<◌, ◌≤◌, ltb, List, [], ◌++◌, length, get_or, take, drop, Some, None, Ok, Err, Option, Result, sym, refl, ap, ◌∙◌, inl, inr, append_assoc, append-nil, arith, length-append, length-drop}
+use Rattle.std.specs.Prelude.{IsOk}
+use Rattle.std.specs.Option.{SomeIff}
 use borrow.Rule.Slice.PartMut.{put_mid}
 use Rattle.std.proofs.lemmas.List.{at_drop_all, at_drop_more, drop_all, drop_at, drop-drop, take_all, take_at}
 use Rattle.std.proofs.lemmas.Bool.{cases_Bool, cond-false, cond-true, le-ltb, lt-ltb, ltb-false, ltb-true}
@@ -13,15 +15,12 @@ use Rattle.program.specs.Programs.{program_bytes}
 abbrev size : List Instruction → ℕ
 size is = length (program_bytes is)
 
--- so many bytes are measured, and those of the records from k on are left
-pub record Measuring (is : List Instruction) (room k total : ℕ) : Type 0 where
-  pub sum : size is ≡ total + size (drop k is)
-  pub within : total ≤ room
+-- so many bytes are left of the room, and those of the records from k on are to come
+pub record Measuring (is : List Instruction) (room k left : ℕ) : Type 0 where
+  pub sum : size is + left ≡ room + size (drop k is)
+  pub within : left ≤ room
 
-pub measuring_none : (is : List Instruction) (room : ℕ) → Measuring is room 0 0
-measuring_none is room = record { sum = omega arith; within = omega arith }
-
-module _ (is : List Instruction) (room k total n : ℕ) (i : Instruction) (m : Measuring is room k total) (h : k < length is) (e : get_or is k i ≡ i) (f : n ≡ length (bytes i)) where
+module _ (is : List Instruction) (room k left n : ℕ) (i : Instruction) (m : Measuring is room k left) (h : k < length is) (e : get_or is k i ≡ i) (f : n ≡ length (bytes i)) where
   split : size (drop k is) ≡ n + size (drop (k + 1) is)
   split =
       at_drop_more size is k i h
@@ -29,16 +28,23 @@ module _ (is : List Instruction) (room k total n : ℕ) (i : Instruction) (m : M
       ∙ length-append (bytes i) (program_bytes (drop (k + 1) is))
       ∙ ap (λ (x : ℕ). x + size (drop (k + 1) is)) (sym f)
 
-  pub measuring_more : n ≤ room - total → Measuring is room (k + 1) (total + n)
-  measuring_more r = record { sum = let a = m.sum in let b = split in omega arith; within = let w = m.within in omega arith }
+  pub measuring_more : (o : Option ℕ) (x : ℕ) → SomeIff o (n ≤ left) (left - n) → o ≡ Some x → Measuring is room (k + 1) x
+  measuring_more None x t g = let z : ◌≡◌ {A = ℕ} 0 1 = cc in absurd (omega arith)
+  measuring_more (Some y) x t g =
+      let same : y ≡ x = cc in
+      let value = t.1 in
+      record { sum = let a = m.sum in let b = split in omega (arith, t.0); within = let w = m.within in omega arith }
 
-  pub measuring_short : room - total < n → Err Short ≡ written (program_bytes is) room
-  measuring_short r = sym (cond-true _ _ _ (lt-ltb room (size is) (let a = m.sum in let b = split in let w = m.within in omega arith)))
+  pub measuring_short : (o : Option ℕ) → SomeIff o (n ≤ left) (left - n) → o ≡ None → Err Short ≡ written (program_bytes is) room
+  measuring_short None t g =
+      let more : left < n = omega (arith, t) in
+      sym (cond-true _ _ _ (lt-ltb room (size is) (let a = m.sum in let b = split in let w = m.within in omega arith)))
+  measuring_short (Some y) t g = let z : ◌≡◌ {A = ℕ} 0 1 = cc in absurd (omega arith)
 
-pub measuring_all : (is : List Instruction) (room k total : ℕ) → Measuring is room k total → length is ≤ k → Ok total ≡ written (program_bytes is) room
-measuring_all is room k total m h =
+pub measuring_all : (is : List Instruction) (room k left : ℕ) → Measuring is room k left → length is ≤ k → Ok (room - left) ≡ written (program_bytes is) room
+measuring_all is room k left m h =
     let none : size (drop k is) ≡ 0 = at_drop_all size is k h in
-    let all : size is ≡ total = let a = m.sum in omega arith in
+    let all : size is ≡ room - left = let a = m.sum in let w = m.within in omega arith in
     ap Ok (sym all) ∙ sym (cond-false _ _ _ (le-ltb room (size is) (let w = m.within in omega arith)))
 
 -- a buffer is half written: `front` stands there, and the bytes of the records from k on are to come
@@ -105,15 +111,20 @@ module _ (is : List Instruction) (old new : List ℕ) (k at : ℕ) (l : Laying i
     room =
         omega (arith, ap length next_bytes, length-append (l.front ++ bytes i) (program_bytes (drop (k + 1) is)), length-append l.front (bytes i), l.count, length-drop at old)
 
-    pub laying_sum : (n : ℕ) → Ok n ≡ written (bytes i) (length part) → at + n ≤ length new
-    laying_sum n r = omega (arith, (written_ok (bytes i) (length part) n r).0, room, ap length l.holds, length-append l.front (drop at old), l.count)
+    pub laying_fits : (r : Result ℕ WriteFault) → r ≡ written (bytes i) (length part) → IsOk r
+    laying_fits (Ok n) e = refl
+    laying_fits (Err f) e = absurd (let w = written_err (bytes i) (length part) f e in omega (arith, ap length part_is, room))
 
-    pub laying_refused : (f : WriteFault) → Err f ≡ written (bytes i) (length part) → ⊥
-    laying_refused f r = omega (arith, written_err (bytes i) (length part) f r, ap length part_is, room)
+    module _ (n : ℕ) (r : Result ℕ WriteFault) (is_ok : r ≡ Ok n) (told : r ≡ written (bytes i) (length part)) where
+      size_is : n ≡ length (bytes i)
+      size_is = (written_ok (bytes i) (length part) n (sym is_ok ∙ told)).0
 
-    pub laying_more : (n : ℕ) (ys : List ℕ) → Ok n ≡ written (bytes i) (length part) → ys ≡ overlaid (bytes i) part → Laying is old (put_mid at (length new - at) new ys) (k + 1) (at + n)
-    laying_more n ys r o =
-        let c : n ≡ length (bytes i) = (written_ok (bytes i) (length part) n r).0 in
+      pub laying_sum : at + n ≤ length new
+      laying_sum = omega (arith, size_is, room, ap length l.holds, length-append l.front (drop at old), l.count)
+
+    pub laying_more : (n : ℕ) (ys : List ℕ) (r : Result ℕ WriteFault) → r ≡ Ok n → r ≡ written (bytes i) (length part) → ys ≡ overlaid (bytes i) part → Laying is old (put_mid at (length new - at) new ys) (k + 1) (at + n)
+    laying_more n ys r ok told o =
+        let c : n ≡ length (bytes i) = size_is n r ok told in
         let there : ys ≡ bytes i ++ drop (at + n) old =
         o ∙ ap (overlaid (bytes i)) part_is ∙ overlaid_fits (bytes i) (drop at old) room
         ∙ ap (λ (m : ℕ). bytes i ++ drop m (drop at old)) (sym c) ∙ ap (λ (bs : List ℕ). bytes i ++ bs) (drop-drop n at old) in

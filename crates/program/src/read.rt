@@ -1,5 +1,5 @@
 // A whole program into the caller's list of records, after a first run that only checks.
-ghost use Rattle.std.specs.Prelude.{◌≡◌, ◌<◌, map, length, slice_set};
+ghost use Rattle.std.specs.Prelude.{◌≡◌, map, length};
 ghost use Rattle.cisca.specs.Making.{parts};
 ghost use Rattle.program.specs.Laws.{ProgramReadsBack, ProgramStopsAtFirstFault, ProgramWritesBack};
 ghost use Rattle.program.specs.Programs.{counted, filled, filling, whole};
@@ -23,14 +23,6 @@ fn count<S: Source>(source: &S) -> Result<usize, ReadFault>
     Ok(n)
 }
 
-// Puts a record at its place in the list.
-fn store(out: &mut [Instruction], at: usize, instruction: Instruction)
-    requires { at < length out.old }
-    ensures { out.new ≡ slice_set out.old at instruction }
-{
-    out[at] = instruction;
-}
-
 // Reads all of a source into the front of a list, and answers how many records there are. Where an
 // instruction is refused, or the list is too short, the list is left as it was.
 pub fn read_program<S: Source>(source: &S, out: &mut [Instruction]) -> Result<usize, ProgramFault>
@@ -45,13 +37,9 @@ pub fn read_program<S: Source>(source: &S, out: &mut [Instruction]) -> Result<us
         return Err(ProgramFault::Short);
     }
     let mut place = Place { offset: 0 };
-    for k in 0..n {
-        match read_next(source, &mut place) {
-            Ok(instruction) => {
-                store(out, k, instruction);
-            }
-            Err(_) => unreachable(),
-        }
+    for slot in &mut out[..n] {
+        // What was counted is read again.
+        *slot = read_next(source, &mut place).unwrap();
     }
     Ok(n)
 }
