@@ -55,9 +55,6 @@ pub record Laying (is : List Instruction) (old new : List ℕ) (k at : ℕ) : Ty
   pub holds : new ≡ front ++ drop at old
   pub within : at ≤ length new
 
-pub laying_none : (is : List Instruction) (old : List ℕ) → Laying is old old 0 0
-laying_none is old = record { front = []; all = refl; count = refl; holds = refl; within = omega arith }
-
 -- bytes that were written had room
 written_ok : (bs : List ℕ) (room n : ℕ) → Ok n ≡ written bs room → (n ≡ length bs) × (length bs ≤ room)
 written_ok bs room n e = elim (cases_Bool (ltb room (length bs))) [
