@@ -113,7 +113,7 @@ impl<S: Source> Cursor<'_, S> {
     {
         let place = self.place;
         let byte = self.byte()?;
-        Operation::from_code(byte).ok_or(ReadCause::UnknownOperation.at(place))
+        Operation::try_from(byte).map_err(|_| ReadCause::UnknownOperation.at(place))
     }
 
     fn mode_byte(&mut self, slot: Slot) -> Result<ModeByte, ReadFault>
