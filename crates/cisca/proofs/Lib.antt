@@ -1,2 +1,3 @@
 pub mod Codes
+pub mod Rows
 pub mod Same

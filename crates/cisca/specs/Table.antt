@@ -1,10 +1,11 @@
 -- The table of operations: each with its byte, its name and its operand group. Assumes nothing.
-use Rattle.std.specs.Prelude.{◌≡◌, ℕ, ◌-◌, List, [], ◌∷◌, ◌++◌, length, replicate, Some, None, codes, Option, Result, MatchResult, ◌==◌}
+use Rattle.std.specs.Prelude.{◌≡◌, ℕ, ◌-◌, List, [], ◌∷◌, ◌++◌, length, map, replicate, Some, None, codes, Option, Result, MatchResult, ◌==◌}
 use Rattle.std.specs.List.{find}
 use Rattle.operands.specs.declared.group.Group.{Group}
 use Rattle.operands.specs.declared.group.Group.TheVariants.{Bare, Inward, Jump, Outward, Pair, Single, Target}
 use Rattle.cisca.specs.declared.operation.Operation.{Operation}
 use Rattle.cisca.specs.declared.operation.Operation.TheVariants.{Add, And, Call, Cli, Cmp, Dec, Div, In, Inc, Int, Iret, Je, Jg, Jge, Jl, Jle, Jmp, Jne, Mov, Mul, Neg, Nop, Not, Or, Out, Pop, Push, Ret, Sal, Sar, Sti, Sub, Test, Xor}
+use Rattle.cisca.specs.declared.operation.Row as declared
 use Rattle.cisca.specs.declared.operation.UnknownOperation.{UnknownOperation}
 
 -- one row of the table
@@ -71,6 +72,18 @@ group o = (row_of o).group
 
 abbrev pub operations : List Operation
 operations = Nop ∷ Sti ∷ Cli ∷ Mov ∷ Push ∷ Pop ∷ Add ∷ Sub ∷ Mul ∷ Div ∷ Inc ∷ Dec ∷ Cmp ∷ Neg ∷ And ∷ Or ∷ Xor ∷ Test ∷ Not ∷ Sal ∷ Sar ∷ Jmp ∷ Je ∷ Jne ∷ Jl ∷ Jle ∷ Jg ∷ Jge ∷ Call ∷ Ret ∷ Int ∷ Iret ∷ In ∷ Out ∷ []
+
+-- the table
+abbrev pub all_rows : List Row
+all_rows = map row_of operations
+
+-- what a row of the code says
+abbrev pub row_in : declared.Row → Row
+row_in r = record { code = r.code; name = r.name.now; group = r.group }
+
+-- which operation a row of the code is of
+abbrev pub operation_in : declared.Row → Operation
+operation_in r = r.operation
 
 -- the operation of this byte
 abbrev pub operation_of : ℕ → Option Operation

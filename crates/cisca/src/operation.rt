@@ -1,99 +1,303 @@
 // The operations, with their bytes, mnemonics and operand groups.
-ghost use Rattle.std.specs.Prelude.{◌≡◌, ◌==◌, Some};
+ghost use Rattle.std.specs.Prelude.{◌≡◌, ◌==◌, ◌<◌, length, map, slice_index_or, Some};
 ghost use Rattle.std.specs.Fmt.{padded};
 ghost use Rattle.std.specs.List.{find};
-ghost use Rattle.cisca.specs.Table.{OperationOf, code, filled, group, letters, name};
+ghost use Rattle.cisca.specs.Table.{OperationOf, all_rows, code, filled, group, letters, name, operation_in, operations, row_in, row_of};
+ghost use Rattle.cisca.specs.declared.operation.Operation.TheVariants.{Nop};
 
 use operands::group::Group;
 use std::fmt;
 
-// The operations, each with its byte.
+// The operations, in the order of their bytes.
 #[derive(Clone, Copy, Debug, PartialEq, Eq)]
 pub enum Operation {
-    Nop = 0x00,
-    Sti = 0x01,
-    Cli = 0x02,
-    Mov = 0x10,
-    Push = 0x11,
-    Pop = 0x12,
-    Add = 0x20,
-    Sub = 0x21,
-    Mul = 0x22,
-    Div = 0x23,
-    Inc = 0x24,
-    Dec = 0x25,
-    Cmp = 0x26,
-    Neg = 0x27,
-    And = 0x30,
-    Or = 0x31,
-    Xor = 0x32,
-    Test = 0x33,
-    Not = 0x34,
-    Sal = 0x35,
-    Sar = 0x36,
-    Jmp = 0x40,
-    Je = 0x41,
-    Jne = 0x42,
-    Jl = 0x43,
-    Jle = 0x44,
-    Jg = 0x45,
-    Jge = 0x46,
-    Call = 0x47,
-    Ret = 0x48,
-    Int = 0x49,
-    Iret = 0x4a,
-    In = 0x50,
-    Out = 0x51,
+    Nop,
+    Sti,
+    Cli,
+    Mov,
+    Push,
+    Pop,
+    Add,
+    Sub,
+    Mul,
+    Div,
+    Inc,
+    Dec,
+    Cmp,
+    Neg,
+    And,
+    Or,
+    Xor,
+    Test,
+    Not,
+    Sal,
+    Sar,
+    Jmp,
+    Je,
+    Jne,
+    Jl,
+    Jle,
+    Jg,
+    Jge,
+    Call,
+    Ret,
+    Int,
+    Iret,
+    In,
+    Out,
 }
 
 // A byte that no operation has.
 #[derive(Clone, Copy, PartialEq, Eq, Debug)]
 pub struct UnknownOperation(pub u8);
 
+// One row of the table.
+#[derive(Clone, Copy)]
+struct Row {
+    operation: Operation,
+    code: u8,
+    name: &'static str,
+    group: Group,
+}
+
+// The operations in the order of their bytes, which is the order of the variants. It is what is read
+// to write an operation, to read one and to show one.
+const OPERATIONS: [Row; 34] = [
+    Row {
+        operation: Operation::Nop,
+        code: 0x00,
+        name: "NOP",
+        group: Group::Bare,
+    },
+    Row {
+        operation: Operation::Sti,
+        code: 0x01,
+        name: "STI",
+        group: Group::Bare,
+    },
+    Row {
+        operation: Operation::Cli,
+        code: 0x02,
+        name: "CLI",
+        group: Group::Bare,
+    },
+    Row {
+        operation: Operation::Mov,
+        code: 0x10,
+        name: "MOV",
+        group: Group::Pair,
+    },
+    Row {
+        operation: Operation::Push,
+        code: 0x11,
+        name: "PUSH",
+        group: Group::Single,
+    },
+    Row {
+        operation: Operation::Pop,
+        code: 0x12,
+        name: "POP",
+        group: Group::Single,
+    },
+    Row {
+        operation: Operation::Add,
+        code: 0x20,
+        name: "ADD",
+        group: Group::Pair,
+    },
+    Row {
+        operation: Operation::Sub,
+        code: 0x21,
+        name: "SUB",
+        group: Group::Pair,
+    },
+    Row {
+        operation: Operation::Mul,
+        code: 0x22,
+        name: "MUL",
+        group: Group::Pair,
+    },
+    Row {
+        operation: Operation::Div,
+        code: 0x23,
+        name: "DIV",
+        group: Group::Pair,
+    },
+    Row {
+        operation: Operation::Inc,
+        code: 0x24,
+        name: "INC",
+        group: Group::Single,
+    },
+    Row {
+        operation: Operation::Dec,
+        code: 0x25,
+        name: "DEC",
+        group: Group::Single,
+    },
+    Row {
+        operation: Operation::Cmp,
+        code: 0x26,
+        name: "CMP",
+        group: Group::Pair,
+    },
+    Row {
+        operation: Operation::Neg,
+        code: 0x27,
+        name: "NEG",
+        group: Group::Single,
+    },
+    Row {
+        operation: Operation::And,
+        code: 0x30,
+        name: "AND",
+        group: Group::Pair,
+    },
+    Row {
+        operation: Operation::Or,
+        code: 0x31,
+        name: "OR",
+        group: Group::Pair,
+    },
+    Row {
+        operation: Operation::Xor,
+        code: 0x32,
+        name: "XOR",
+        group: Group::Pair,
+    },
+    Row {
+        operation: Operation::Test,
+        code: 0x33,
+        name: "TEST",
+        group: Group::Pair,
+    },
+    Row {
+        operation: Operation::Not,
+        code: 0x34,
+        name: "NOT",
+        group: Group::Single,
+    },
+    Row {
+        operation: Operation::Sal,
+        code: 0x35,
+        name: "SAL",
+        group: Group::Pair,
+    },
+    Row {
+        operation: Operation::Sar,
+        code: 0x36,
+        name: "SAR",
+        group: Group::Pair,
+    },
+    Row {
+        operation: Operation::Jmp,
+        code: 0x40,
+        name: "JMP",
+        group: Group::Target,
+    },
+    Row {
+        operation: Operation::Je,
+        code: 0x41,
+        name: "JE",
+        group: Group::Jump,
+    },
+    Row {
+        operation: Operation::Jne,
+        code: 0x42,
+        name: "JNE",
+        group: Group::Jump,
+    },
+    Row {
+        operation: Operation::Jl,
+        code: 0x43,
+        name: "JL",
+        group: Group::Jump,
+    },
+    Row {
+        operation: Operation::Jle,
+        code: 0x44,
+        name: "JLE",
+        group: Group::Jump,
+    },
+    Row {
+        operation: Operation::Jg,
+        code: 0x45,
+        name: "JG",
+        group: Group::Jump,
+    },
+    Row {
+        operation: Operation::Jge,
+        code: 0x46,
+        name: "JGE",
+        group: Group::Jump,
+    },
+    Row {
+        operation: Operation::Call,
+        code: 0x47,
+        name: "CALL",
+        group: Group::Target,
+    },
+    Row {
+        operation: Operation::Ret,
+        code: 0x48,
+        name: "RET",
+        group: Group::Bare,
+    },
+    Row {
+        operation: Operation::Int,
+        code: 0x49,
+        name: "INT",
+        group: Group::Target,
+    },
+    Row {
+        operation: Operation::Iret,
+        code: 0x4a,
+        name: "IRET",
+        group: Group::Bare,
+    },
+    Row {
+        operation: Operation::In,
+        code: 0x50,
+        name: "IN",
+        group: Group::Inward,
+    },
+    Row {
+        operation: Operation::Out,
+        code: 0x51,
+        name: "OUT",
+        group: Group::Outward,
+    },
+];
+
+// The table's rows.
+fn table() -> &'static [Row; 34]
+    ensures rows { map row_in result.now ≡ all_rows }
+    ensures operations { map operation_in result.now ≡ operations }
+{
+    &OPERATIONS
+}
+
 impl Operation {
-    // Every operation, in the order of the bytes.
-    const ALL: [Operation; 34] = [
-        Operation::Nop,
-        Operation::Sti,
-        Operation::Cli,
-        Operation::Mov,
-        Operation::Push,
-        Operation::Pop,
-        Operation::Add,
-        Operation::Sub,
-        Operation::Mul,
-        Operation::Div,
-        Operation::Inc,
-        Operation::Dec,
-        Operation::Cmp,
-        Operation::Neg,
-        Operation::And,
-        Operation::Or,
-        Operation::Xor,
-        Operation::Test,
-        Operation::Not,
-        Operation::Sal,
-        Operation::Sar,
-        Operation::Jmp,
-        Operation::Je,
-        Operation::Jne,
-        Operation::Jl,
-        Operation::Jle,
-        Operation::Jg,
-        Operation::Jge,
-        Operation::Call,
-        Operation::Ret,
-        Operation::Int,
-        Operation::Iret,
-        Operation::In,
-        Operation::Out,
-    ];
+    // Where the operation stands among all.
+    fn place(self) -> usize
+        ensures stands { slice_index_or operations result Nop ≡ self }
+        ensures below { result < length operations }
+    {
+        self as usize
+    }
+
+    // The operation's row.
+    fn row(self) -> &'static Row
+        ensures { row_in result.now ≡ row_of self }
+    {
+        &table()[self.place()]
+    }
 
     // The operation's byte.
     pub fn code(self) -> u8
         ensures { result ≡ code self }
     {
-        self as u8
+        self.row().code
     }
 
     // The operation's name, in two to four capitals.
@@ -101,89 +305,23 @@ impl Operation {
         ensures name { result.now ≡ name self }
         ensures letters { filled result.now ≡ letters self }
     {
-        match self {
-            Operation::Nop => "NOP",
-            Operation::Sti => "STI",
-            Operation::Cli => "CLI",
-            Operation::Mov => "MOV",
-            Operation::Push => "PUSH",
-            Operation::Pop => "POP",
-            Operation::Add => "ADD",
-            Operation::Sub => "SUB",
-            Operation::Mul => "MUL",
-            Operation::Div => "DIV",
-            Operation::Inc => "INC",
-            Operation::Dec => "DEC",
-            Operation::Cmp => "CMP",
-            Operation::Neg => "NEG",
-            Operation::And => "AND",
-            Operation::Or => "OR",
-            Operation::Xor => "XOR",
-            Operation::Test => "TEST",
-            Operation::Not => "NOT",
-            Operation::Sal => "SAL",
-            Operation::Sar => "SAR",
-            Operation::Jmp => "JMP",
-            Operation::Je => "JE",
-            Operation::Jne => "JNE",
-            Operation::Jl => "JL",
-            Operation::Jle => "JLE",
-            Operation::Jg => "JG",
-            Operation::Jge => "JGE",
-            Operation::Call => "CALL",
-            Operation::Ret => "RET",
-            Operation::Int => "INT",
-            Operation::Iret => "IRET",
-            Operation::In => "IN",
-            Operation::Out => "OUT",
-        }
+        self.row().name
     }
 
     // Which operands the operation takes.
     pub fn group(self) -> Group
         ensures { result ≡ group self }
     {
-        match self {
-            Operation::Nop | Operation::Sti | Operation::Cli | Operation::Ret | Operation::Iret =>
-                Group::Bare,
-            Operation::Push
-            | Operation::Pop
-            | Operation::Inc
-            | Operation::Dec
-            | Operation::Neg
-            | Operation::Not => Group::Single,
-            Operation::Mov
-            | Operation::Add
-            | Operation::Sub
-            | Operation::Mul
-            | Operation::Div
-            | Operation::Cmp
-            | Operation::And
-            | Operation::Or
-            | Operation::Xor
-            | Operation::Test
-            | Operation::Sal
-            | Operation::Sar => Group::Pair,
-            Operation::Jmp | Operation::Call | Operation::Int => Group::Target,
-            Operation::Je
-            | Operation::Jne
-            | Operation::Jl
-            | Operation::Jle
-            | Operation::Jg
-            | Operation::Jge => Group::Jump,
-            Operation::In => Group::Inward,
-            Operation::Out => Group::Outward,
-        }
+        self.row().group
     }
 }
 
-// The first of these operations with this byte.
-fn first_with(operations: &[Operation], byte: u8) -> Option<Operation>
-    ensures { result ≡ find (λ o. code o == byte) operations.now }
+// The first operation of these rows that has this byte.
+fn first_with(rows: &[Row], byte: u8) -> Option<Operation>
+    ensures { result ≡ find (λ o. code o == byte) (map operation_in rows.now) }
 {
-    operations
-        .iter()
-        .copied()
+    rows.iter()
+        .map(|row| row.operation)
         .find(|operation| operation.code() == byte)
 }
 
@@ -193,7 +331,7 @@ impl TryFrom<u8> for Operation {
     ghost try_from_gives = { OperationOf };
 
     fn try_from(byte: u8) -> Result<Operation, UnknownOperation> {
-        first_with(&Operation::ALL, byte).ok_or(UnknownOperation(byte))
+        first_with(table(), byte).ok_or(UnknownOperation(byte))
     }
 }
 

@@ -1,0 +1,20 @@
+-- A row by its place in the table. Assumes nothing.
+use Rattle.std.proofs.Common.{◌≡◌, ℕ, ◌<◌, List, length, map, sym, ◌∙◌, ap}
+use Rattle.std.proofs.lemmas.List.{get_or-map, length-map}
+use Rattle.std.specs.Prelude.{slice_index_or}
+use Rattle.cisca.specs.Table.{all_rows, operations, row_in, row_of}
+use Rattle.cisca.specs.declared.operation.Operation.{Operation}
+use Rattle.cisca.specs.declared.operation.Operation.TheVariants.{Nop}
+use Rattle.cisca.specs.declared.operation.Row as declared
+
+-- rows that say what the table's say are as many
+same_length : (xs : List declared.Row) → map row_in xs ≡ all_rows → length xs ≡ length operations
+same_length xs e = sym (length-map xs row_in) ∙ ap length e
+
+-- the row at an operation's place says what the table says of the operation
+pub row_at : (xs : List declared.Row) (i : ℕ) (d : declared.Row) (o : Operation) → map row_in xs ≡ all_rows → slice_index_or operations i Nop ≡ o → i < length operations → row_in (slice_index_or xs i d) ≡ row_of o
+row_at xs i d o e at below =
+    sym (get_or-map row_in xs i d (row_in d) (rw (same_length xs e) below))
+    ∙ ap (λ rows. slice_index_or rows i (row_in d)) e
+    ∙ get_or-map row_of operations i Nop (row_in d) below
+    ∙ ap row_of at
