@@ -1,6 +1,6 @@
 -- Records with facts in them are equal where their fields are. Assumes nothing.
 use mathlib.Core.HLevel.{is_prop→PathP}
-use Rattle.std.proofs.Common.{◌≡◌, Bool, true, false, T, sym, refl, subst}
+use Rattle.std.proofs.Common.{◌≡◌, true, T, sym, refl, subst, rules}
 use lib.Dec.{T_prop}
 use Rattle.cisca.specs.declared.instruction.Instruction.{Instruction}
 use Rattle.cisca.specs.Legality.{pairing}
@@ -18,10 +18,6 @@ same_instruction x y e = λ i. record {
   slim = is_prop→PathP (λ i. T (all_within (e i).second)) (λ i. T_prop (all_within (e i).second)) x.slim y.slim i;
 }
 
-test_true : (b : Bool) → T b → b ≡ true
-test_true true t = refl
-test_true false t = absurd t
-
 -- parts that go together, and whose quantities fit
 abbrev pub Legal : Parts → Type 0
 Legal x = (pairing x.operation x.first x.second ≡ true) × T (all_within x.first) × T (all_within x.second)
@@ -32,4 +28,4 @@ record_of x l = (record { operation = x.operation; first = x.first; second = x.s
 
 -- and a record's parts are such
 pub record_legal : (i : Instruction) → Legal (parts i)
-record_legal i = (test_true (pairing i.operation i.first i.second) i.legal, i.narrow, i.slim)
+record_legal i = search rules

@@ -1,3 +1,2 @@
-pub mod Finds
 pub mod Modes
 pub mod Same

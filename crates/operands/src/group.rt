@@ -41,10 +41,10 @@ impl Group {
     {
         match self {
             Group::Bare => false,
-            Group::Single | Group::Pair => first.is_register() || first.is_memory(),
-            Group::Target => first.is_immediate(),
-            Group::Jump => first.is_pc_relative(),
-            Group::Inward => first.is_register(),
+            Group::Single | Group::Pair => first == Mode::Register || first.is_memory(),
+            Group::Target => first == Mode::Immediate,
+            Group::Jump => first == Mode::PcRelative,
+            Group::Inward => first == Mode::Register,
             Group::Outward => first.is_memory(),
         }
     }
@@ -55,11 +55,11 @@ impl Group {
     {
         match self {
             Group::Pair => {
-                let plain = second.is_immediate() || second.is_register();
-                plain || (first.is_register() && second.is_memory())
+                let plain = second == Mode::Immediate || second == Mode::Register;
+                plain || (first == Mode::Register && second.is_memory())
             }
             Group::Inward => second.is_memory(),
-            Group::Outward => second.is_register(),
+            Group::Outward => second == Mode::Register,
             Group::Bare | Group::Single | Group::Target | Group::Jump => false,
         }
     }

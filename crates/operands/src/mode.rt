@@ -1,6 +1,6 @@
 // The modes of an operand.
 ghost use Rattle.std.specs.Prelude.{◌≡◌};
-ghost use Rattle.operands.specs.Modes.{ModeOf, immediate, memory, mode_number, pc_relative, register, unregistered};
+ghost use Rattle.operands.specs.Modes.{ModeOf, memory, mode_number, unregistered};
 
 // The kind of an operand, in the order of the modes' numbers, 0 to 6.
 #[derive(Clone, Copy, PartialEq, Eq, Debug)]
@@ -45,18 +45,6 @@ impl Mode {
         self as u8
     }
 
-    pub fn is_immediate(self) -> bool
-        ensures { result ≡ immediate self }
-    {
-        matches!(self, Mode::Immediate)
-    }
-
-    pub fn is_register(self) -> bool
-        ensures { result ≡ register self }
-    {
-        matches!(self, Mode::Register)
-    }
-
     // Whether the operand is a place in memory: modes 2 to 5.
     pub fn is_memory(self) -> bool
         ensures { result ≡ memory self }
@@ -65,12 +53,6 @@ impl Mode {
             self,
             Mode::Direct | Mode::Indirect | Mode::Relative | Mode::Indexed
         )
-    }
-
-    pub fn is_pc_relative(self) -> bool
-        ensures { result ≡ pc_relative self }
-    {
-        matches!(self, Mode::PcRelative)
     }
 
     // Whether the mode names no register, so that the digit of its mode byte is 0.

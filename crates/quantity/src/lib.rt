@@ -38,7 +38,7 @@ impl Address {
     pub fn displaced(self, by: Displacement) -> Address
         ensures { result ≡ displaced self by }
     {
-        Address(self.0.wrapping_add(i32::from(by.0).cast_unsigned()))
+        Address(self.0.wrapping_add_signed(i32::from(by.0)))
     }
 }
 

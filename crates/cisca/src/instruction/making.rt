@@ -38,19 +38,15 @@ fn is_legal(operation: Operation, first: Option<Operand>, second: Option<Operand
     ensures { result ≡ pairing operation first second }
 {
     let group = operation.group();
-    match first {
-        None => match second {
-            None => group.operand_count() == 0,
-            Some(_) => false,
-        },
-        Some(a) => match second {
-            None => group.operand_count() == 1 && group.first_fits(a.mode()),
-            Some(b) => {
-                group.operand_count() == 2
-                    && group.first_fits(a.mode())
-                    && group.second_fits(a.mode(), b.mode())
-            }
-        },
+    match (first, second) {
+        (None, None) => group.operand_count() == 0,
+        (None, Some(_)) => false,
+        (Some(a), None) => group.operand_count() == 1 && group.first_fits(a.mode()),
+        (Some(a), Some(b)) => {
+            group.operand_count() == 2
+                && group.first_fits(a.mode())
+                && group.second_fits(a.mode(), b.mode())
+        }
     }
 }
 
