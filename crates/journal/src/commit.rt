@@ -1,48 +1,24 @@
 // Making an effect true.
 ghost use Rattle.std.specs.Prelude.{◌≡◌};
-ghost use Rattle.journal.specs.Entries.{entry_of, old_at, old_port, old_word};
+ghost use Rattle.journal.specs.Entries.{entry_of, old_at, old_port};
 ghost use Rattle.processor.specs.Views.{applied, sent, stored, view};
 
 use crate::entry::{Entry, OldWord};
-use memory::{Readable, Store};
+use memory::Store;
 use ports::Ports;
 use processor::effect::{Effect, PortWrite, StoreWrite};
 use processor::state::Processor;
-use quantity::Address;
 use words::access::write_word;
-
-// The four bytes from an address on, where there are four.
-fn read_old<M: Readable>(memory: &M, at: Address) -> Option<OldWord>
-    ensures { result ≡ old_word (M.Readable.cells memory.now) at }
-{
-    if let (Ok(a), Ok(b), Ok(c), Ok(d)) = (
-        memory.read(at),
-        memory.read(at.later(1)),
-        memory.read(at.later(2)),
-        memory.read(at.later(3)),
-    ) {
-        Some(OldWord {
-            at,
-            bytes: [a, b, c, d],
-        })
-    } else {
-        None
-    }
-}
 
 // Stores the word, where it can be, and gives what stood there.
 fn replace<S: Store>(store: &mut S, write: Option<StoreWrite>) -> Option<OldWord>
     ensures old { result ≡ old_at (S.Readable.cells store.old) write }
     ensures after { S.Readable.cells store.new ≡ stored write (S.Readable.cells store.old) }
 {
-    match write {
-        None => None,
-        Some(StoreWrite { at, word }) => {
-            let old = read_old(store, at);
-            let _ = write_word(store, at, word);
-            old
-        }
-    }
+    let StoreWrite { at, word } = write?;
+    let old = OldWord::read(store, at);
+    let _ = write_word(store, at, word);
+    old
 }
 
 // Sends the word, where the port is there, and gives the word that was there.
@@ -50,19 +26,15 @@ pub(crate) fn send<P: Ports>(ports: &mut P, write: Option<PortWrite>) -> Option<
     ensures old { result ≡ old_port (P.Ports.words ports.old) write }
     ensures after { P.Ports.words ports.new ≡ sent write (P.Ports.words ports.old) }
 {
-    let Some(PortWrite { port, word }) = write else {
-        return None;
-    };
-    let old = match ports.get(port) {
-        Ok(word) => Some(PortWrite { port, word }),
-        Err(_) => None,
-    };
+    let PortWrite { port, word } = write?;
+    let old = ports.get(port).ok().map(|word| PortWrite { port, word });
     let _ = ports.set(port, word);
     old
 }
 
 // Makes an effect true of a processor, a store and a bank, and gives the entry that takes it back.
 // A word that cannot be stored or sent changes nothing.
+// The three are borrowed apart: callers keep them as they like, and a struct of three borrows would be made at each call only to be taken apart in it.
 pub fn commit<S: Store, P: Ports>(
     processor: &mut Processor,
     store: &mut S,

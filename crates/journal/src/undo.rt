@@ -9,36 +9,18 @@ use memory::Store;
 use ports::Ports;
 use processor::state::Processor;
 
-// Puts back the bytes that stood there.
+// Puts back the bytes that stood there, if any did.
 fn restore<S: Store>(store: &mut S, old: Option<OldWord>)
     ensures { S.Readable.cells store.new ≡ restored old (S.Readable.cells store.old) }
 {
     if let Some(word) = old {
-        let at = word.at;
-        let _ = store.write(at, word.bytes[0]);
-        let _ = store.write(at.later(1), word.bytes[1]);
-        let _ = store.write(at.later(2), word.bytes[2]);
-        let _ = store.write(at.later(3), word.bytes[3]);
+        word.restore(store);
     }
 }
 
-// The second word first, then the first, the port and the processor.
-fn put_back<S: Store, P: Ports>(
-    processor: &mut Processor,
-    store: &mut S,
-    ports: &mut P,
-    entry: Entry,
-)
-    ensures { view processor.new (S.Readable.cells store.new) (P.Ports.words ports.new) ≡ undone entry (view processor.old (S.Readable.cells store.old) (P.Ports.words ports.old)) }
-{
-    restore(store, entry.second);
-    restore(store, entry.first);
-    let _ = send(ports, entry.output);
-    *processor = entry.processor;
-}
-
-// Takes an entry back. The entry of an effect, taken back right after the effect, leaves all as it
-// was before.
+// Takes an entry back: the second word first, then the first, the port and the processor. The entry
+// of an effect, taken back right after the effect, leaves all as it was before.
+#[tactic(auto, using(crate::proofs::Undoing::undoes))]
 pub fn undo<S: Store, P: Ports>(
     processor: &mut Processor,
     store: &mut S,
@@ -48,5 +30,8 @@ pub fn undo<S: Store, P: Ports>(
     ensures after { view processor.new (S.Readable.cells store.new) (P.Ports.words ports.new) ≡ undone entry (view processor.old (S.Readable.cells store.old) (P.Ports.words ports.old)) }
     ensures restores { Undoes }
 {
-    put_back(processor, store, ports, entry);
+    restore(store, entry.second);
+    restore(store, entry.first);
+    let _ = send(ports, entry.output);
+    *processor = entry.processor;
 }

@@ -14,11 +14,11 @@ use processor::state::Processor;
 use std::alloc::{AllocError, Global};
 
 // The journal has 256 entries.
-#[derive(Clone, Copy)]
+#[derive(Clone, Copy, PartialEq, Eq, Debug)]
 pub struct JournalFull;
 
 // The journal has no entry.
-#[derive(Clone, Copy)]
+#[derive(Clone, Copy, PartialEq, Eq, Debug)]
 pub struct JournalEmpty;
 
 impl<M: Store, P: Ports> Journaled<M, P> {
@@ -40,6 +40,7 @@ impl<M: Store, P: Ports> Journaled<M, P> {
     }
 
     // How many entries there are.
+    #[tactic(auto, using(crate::proofs::Telling::length_past))]
     pub fn count(&self) -> usize
         ensures { result ≡ length (story_of M.Readable.cells P.Ports.words self.now).past }
     {
@@ -54,6 +55,7 @@ impl<M: Store, P: Ports> Journaled<M, P> {
     }
 
     // Makes an effect true, and adds its entry; without room nothing changes.
+    #[tactic(auto, using(crate::proofs::Telling::length_past, crate::proofs::Telling::earlier_pushed))]
     pub fn record(&mut self, effect: Effect) -> Result<(), JournalFull>
         ensures answers { result ≡ record_answer (story_of M.Readable.cells P.Ports.words self.old) }
         ensures after { story_of M.Readable.cells P.Ports.words self.new ≡ record_story effect (story_of M.Readable.cells P.Ports.words self.old) }
@@ -76,9 +78,7 @@ impl<M: Store, P: Ports> Journaled<M, P> {
         ensures answers { result ≡ back_answer (story_of M.Readable.cells P.Ports.words self.old).past }
         ensures after { story_of M.Readable.cells P.Ports.words self.new ≡ back_story (story_of M.Readable.cells P.Ports.words self.old).past (story_of M.Readable.cells P.Ports.words self.old) }
     {
-        let Some(entry) = self.entries.pop() else {
-            return Err(JournalEmpty);
-        };
+        let entry = self.entries.pop().ok_or(JournalEmpty)?;
         undo(
             &mut self.processor,
             &mut self.memory,
