@@ -1,25 +1,17 @@
 -- The layout of a program, and the record at each offset. Assumes nothing.
-use Rattle.std.proofs.Common.{◌≡◌, ℕ, zero, suc, ◌+◌, ◌-◌, ◌<◌, ◌≤◌, Bool, true, false, cond, eqb, ltb, List, [], ◌∷◌, ◌++◌, length, get_or, drop, replicate, Some, None, Option, sym, refl, ap, ◌∙◌, inl, inr, append_assoc, append-nil, arith, length-append}
-use lib.ListN.{length-replicate}
-use Rattle.std.proofs.lemmas.List.{drop_all, get_or_append_left, get_or-append_right, get_or_past, get_or-replicate}
+use Rattle.std.proofs.Common.{◌≡◌, ℕ, zero, suc, ◌-◌, ◌<◌, ◌≤◌, Bool, true, false, cond, eqb, ltb, List, [], ◌∷◌, ◌++◌, length, get_or, replicate, Some, None, Option, sym, refl, ap, ◌∙◌, inl, inr, arith, length-append}
 use Rattle.std.proofs.lemmas.Bool.{cases_Bool, ltb-false, ltb-true}
 use Rattle.std.proofs.lemmas.Bool.Decides.{nat_tests}
+use Rattle.std.proofs.lemmas.List.{get_or_append_left, get_or-append_right, get_or_past, get_or-replicate, length-replicate}
 use Rattle.cisca.specs.declared.instruction.Instruction.{Instruction}
 use Rattle.codec.specs.Encoding.{bytes}
-use Rattle.program.specs.Programs.{program_bytes}
 use Rattle.loading.specs.Layouts.{laid_out, listed_records, none_listed, room_of, starting}
-use Rattle.loading.proofs.Lays.{record_next}
 
-abbrev pub Rows : Type 0
+abbrev Rows : Type 0
 Rows = List (Option Instruction)
 
-pub room_length : (i : Instruction) → length (room_of i) ≡ length (bytes i)
+room_length : (i : Instruction) → length (room_of i) ≡ length (bytes i)
 room_length i = let e = length-replicate {A = Option Instruction} (length (bytes i) - 1) None in omega arith
-
--- a layout is as long as the program's bytes
-pub length_laid : (is : List Instruction) → length (laid_out is) ≡ length (program_bytes is)
-length_laid [] = refl
-length_laid (i ∷ is) = length-append (room_of i) (laid_out is) ∙ (λ j. room_length i j + length_laid is j) ∙ sym (length-append (bytes i) (program_bytes is))
 
 blanks : (k : ℕ) (os : Rows) → listed_records (replicate k None ++ os) ≡ listed_records os
 blanks zero os = refl
@@ -79,48 +71,8 @@ starting_at os k e = ap (λ (l : Rows). get_or l k None) e ∙ starting_in (list
 
 no_layout : (is : List Instruction) → none_listed is ≡ true → laid_out is ≡ []
 no_layout [] e = refl
-no_layout (i ∷ is) e = let z : ◌≡◌ {A = ℕ} 0 1 = ap (λ (t : Bool). cond t 1 0) e in absurd (omega arith)
+no_layout (i ∷ is) e = cc
 
 -- a layout with no record has no row
 pub no_rows : (os : Rows) → os ≡ laid_out (listed_records os) → none_listed (listed_records os) ≡ true → os ≡ []
 no_rows os e n = e ∙ no_layout (listed_records os) n
-
--- A layout as it grows.
-
-pub blank_more : (xs ys zs : Rows) (n k : ℕ) → k < n → ys ≡ xs ++ (None ∷ []) → xs ++ replicate (n - k) None ≡ zs → ys ++ replicate (n - (k + 1)) None ≡ zs
-blank_more xs ys zs n k h p e =
-    let f : n - k ≡ suc (n - (k + 1)) = omega arith in
-    ap (λ (l : Rows). l ++ replicate (n - (k + 1)) None) p
-    ∙ append_assoc xs (None ∷ []) (replicate (n - (k + 1)) None)
-    ∙ sym (ap (λ (j : ℕ). xs ++ replicate j None) f) ∙ e
-
-pub blank_all : (os xs ys : Rows) (i : Instruction) (n k : ℕ) → n ≤ k → n ≡ length (bytes i) → ys ≡ os ++ (Some i ∷ []) → xs ++ replicate (n - k) None ≡ ys ++ replicate (n - 1) None → xs ≡ os ++ room_of i
-blank_all os xs ys i n k h c p e =
-    let f : n - k ≡ 0 = omega arith in
-    sym (append-nil xs) ∙ sym (ap (λ (j : ℕ). xs ++ replicate j None) f) ∙ e
-    ∙ ap (λ (l : Rows). l ++ replicate (n - 1) None) p
-    ∙ append_assoc os (Some i ∷ []) (replicate (n - 1) None)
-    ∙ ap (λ (j : ℕ). os ++ (Some i ∷ replicate (j - 1) None)) c
-
-pub length_next : (is : List Instruction) (k : ℕ) (i : Instruction) → k < length is → i ≡ get_or is k i → length (program_bytes (drop k is)) ≡ length (bytes i) + length (program_bytes (drop (k + 1) is))
-length_next is k i h e = ap (λ (l : List Instruction). length (program_bytes l)) (record_next is k i h e) ∙ length-append (bytes i) (program_bytes (drop (k + 1) is))
-
-pub rows_more : (is : List Instruction) (k : ℕ) (i : Instruction) (xs ys zs : Rows) → k < length is → i ≡ get_or is k i → ys ≡ xs ++ room_of i → xs ++ laid_out (drop k is) ≡ zs → ys ++ laid_out (drop (k + 1) is) ≡ zs
-rows_more is k i xs ys zs h e p q =
-    ap (λ (l : Rows). l ++ laid_out (drop (k + 1) is)) p
-    ∙ append_assoc xs (room_of i) (laid_out (drop (k + 1) is))
-    ∙ sym (ap (λ (l : List Instruction). xs ++ laid_out l) (record_next is k i h e)) ∙ q
-
-pub rows_length : (xs ys : Rows) (i : Instruction) → ys ≡ xs ++ room_of i → length ys ≡ length xs + length (bytes i)
-rows_length xs ys i p = ap length p ∙ length-append xs (room_of i) ∙ ap (λ (n : ℕ). length xs + n) (room_length i)
-
-pub rows_all : (is : List Instruction) (k : ℕ) (xs ys : Rows) → length is ≤ k → xs ++ laid_out (drop k is) ≡ ys → xs ≡ ys
-rows_all is k xs ys h e = sym (append-nil xs) ∙ sym (ap (λ (l : List Instruction). xs ++ laid_out l) (drop_all k is h)) ∙ e
-
--- A layout that takes up a program.
-
-pub taken_up : (os rows : Rows) (is : List Instruction) → os ≡ [] → rows ≡ os ++ laid_out is → rows ≡ laid_out is
-taken_up os rows is none e = e ∙ ap (λ (l : Rows). l ++ laid_out is) none
-
-pub lays_anew : (rows : Rows) (is : List Instruction) → rows ≡ laid_out is → rows ≡ laid_out (listed_records rows)
-lays_anew rows is e = e ∙ ap laid_out (sym (records_laid is) ∙ ap listed_records (sym e))

@@ -15,7 +15,7 @@ use Rattle.program.specs.Programs.{program_bytes}
 use Rattle.quantity.specs.Sums.{later}
 use Rattle.quantity.specs.declared.Address.{Address}
 use Rattle.words.specs.Words.{and_then}
-use Rattle.loading.specs.Laid.{Fixes, HasRoom, ReadsAs, laid, vacancy}
+use Rattle.loading.specs.Laid.{Fixes, HasRoom, HoldsFixed, OthersStay, ReadsAs, ReadsAsListed, laid, vacancy}
 
 -- m with the bytes xs written from a on, all at once
 abbrev pub block : (ℕ → Cell) → ℕ → List ℕ → ℕ → Cell
@@ -52,7 +52,7 @@ block_more : (x : ℕ) (xs : List ℕ) (m : ℕ → Cell) (a q : ℕ) → block 
 block_more x xs m a q = more_at (eqb q a) x xs m a q refl
 
 -- bytes laid one by one are a block
-pub laid_block : (xs : List ℕ) (m : ℕ → Cell) (a : Address) (q : ℕ) → a.0 + length xs ≤ 2 ^ 32 → laid m a xs q ≡ block m a.0 xs q
+laid_block : (xs : List ℕ) (m : ℕ → Cell) (a : Address) (q : ℕ) → a.0 + length xs ≤ 2 ^ 32 → laid m a xs q ≡ block m a.0 xs q
 laid_block [] m a q h = let none : covered a.0 0 q ≡ false = grind (arith, nat_tests) in sym (cond-false _ _ _ none)
 laid_block (x ∷ []) m a q h =
     let none : covered (a.0 + 1) 0 q ≡ false = grind (arith, nat_tests) in
@@ -64,16 +64,13 @@ laid_block (x ∷ (y ∷ ys)) m a q h =
     ∙ block_more x (y ∷ ys) m a.0 q
 
 -- no other address is changed
-pub laid_elsewhere : (xs : List ℕ) (m : ℕ → Cell) (a : Address) → a.0 + length xs ≤ 2 ^ 32 → (q : ℕ) → covered a.0 (length xs) q ≡ false → laid m a xs q ≡ m q
-laid_elsewhere xs m a l q e = laid_block xs m a q l ∙ cond-false _ _ _ e
-
-pub sealed_elsewhere : (xs : List ℕ) (m : ℕ → Cell) (a : Address) → a.0 + length xs ≤ 2 ^ 32 → (q : ℕ) → covered a.0 (length xs) q ≡ false → sealed a.0 (length xs) (laid m a xs) q ≡ m q
-sealed_elsewhere xs m a l q e = cond-false _ _ _ e ∙ laid_elsewhere xs m a l q e
+pub laid_elsewhere : (xs : List ℕ) (m n : ℕ → Cell) (a : Address) → n ≡ laid m a xs → OthersStay m n a xs
+laid_elsewhere xs m n a e l q o = ap (λ (f : ℕ → Cell). f q) e ∙ laid_block xs m a q l ∙ cond-false _ _ _ o
 
 first_free : (x : Cell) (a : Address) (r : Result (Unit {0}) StoreFault) (b : ℕ) → and_then (writing x a) (λ _. r) ≡ Ok tt → (stored x b ≡ free b) × (r ≡ Ok tt)
-first_free nothing a r b e = let z : ◌≡◌ {A = ℕ} 0 1 = cc in absurd (omega arith)
+first_free nothing a r b e = cc
 first_free (free c) a r b e = (refl, e)
-first_free (fixed c) a r b e = let z : ◌≡◌ {A = ℕ} 0 1 = cc in absurd (omega arith)
+first_free (fixed c) a r b e = cc
 
 -- what is vacant is free
 free_at : (n : ℕ) (m : ℕ → Cell) (a : Address) → a.0 + n ≤ 2 ^ 32 → vacancy m a n ≡ Ok tt → (k b : ℕ) → k < n → stored (m (a.0 + k)) b ≡ free b
@@ -89,7 +86,7 @@ inside : (a n k : ℕ) → k < n → covered a n (a + k) ≡ true
 inside a n k h = grind (arith, nat_tests)
 
 -- bytes laid where they may be are then there
-pub laid_shows : (xs : List ℕ) (m : ℕ → Cell) (a : Address) → HasRoom m a (length xs) → (k : ℕ) → k < length xs → laid m a xs (a.0 + k) ≡ free (get_or xs k 0)
+laid_shows : (xs : List ℕ) (m : ℕ → Cell) (a : Address) → HasRoom m a (length xs) → (k : ℕ) → k < length xs → laid m a xs (a.0 + k) ≡ free (get_or xs k 0)
 laid_shows xs m a r k h =
     laid_block xs m a (a.0 + k) r.1
     ∙ cond-true _ _ _ (inside a.0 (length xs) k h)
@@ -97,8 +94,8 @@ laid_shows xs m a r k h =
     ∙ free_at (length xs) m a r.1 r.0 k (get_or xs k 0) h
 
 -- and fixed once they are sealed
-pub sealed_shows : (xs : List ℕ) (m : ℕ → Cell) (a : Address) → HasRoom m a (length xs) → Fixes (sealed a.0 (length xs) (laid m a xs)) a xs
-sealed_shows xs m a r k h = cond-true _ _ _ (inside a.0 (length xs) k h) ∙ ap shut (laid_shows xs m a r k h)
+pub sealed_shows : (xs : List ℕ) (m n : ℕ → Cell) (a : Address) → n ≡ laid m a xs → HoldsFixed m n a xs
+sealed_shows xs m n a e r k h = cond-true _ _ _ (inside a.0 (length xs) k h) ∙ ap shut (ap (λ (f : ℕ → Cell). f (a.0 + k)) e ∙ laid_shows xs m a r k h)
 
 -- Reading.
 
@@ -130,12 +127,12 @@ module _ (xs : List ℕ) (m : ℕ → Cell) (a : Address) (l : a.0 + length xs �
   range_lies = lies_from (memory_span m a (length xs)) xs 0 span_at
 
 -- a range with the fixed bytes of a program reads as the program
-pub range_reads : (is : List Instruction) (m : ℕ → Cell) (a : Address) → a.0 + length (program_bytes is) ≤ 2 ^ 32 → Fixes m a (program_bytes is) → ReadsAs m a is
+range_reads : (is : List Instruction) (m : ℕ → Cell) (a : Address) → a.0 + length (program_bytes is) ≤ 2 ^ 32 → Fixes m a (program_bytes is) → ReadsAs m a is
 range_reads is m a l f =
     let n = length (program_bytes is) in
     program_reads_back (memory_span m a n) n (span_ends m a n) is
     (range_lies (program_bytes is) m a l (programs_small is) f, span_ends m a n n (omega arith))
 
 -- so does the range of a program that was laid and sealed
-pub sealed_reads : (is : List Instruction) (m : ℕ → Cell) (a : Address) → HasRoom m a (length (program_bytes is)) → ReadsAs (sealed a.0 (length (program_bytes is)) (laid m a (program_bytes is))) a is
-sealed_reads is m a r = range_reads is (sealed a.0 (length (program_bytes is)) (laid m a (program_bytes is))) a r.1 (sealed_shows (program_bytes is) m a r)
+pub sealed_reads : (is : List Instruction) (m n : ℕ → Cell) (a : Address) → n ≡ laid m a (program_bytes is) → ReadsAsListed m n a is
+sealed_reads is m n a e r = range_reads is (sealed a.0 (length (program_bytes is)) n) a r.1 (sealed_shows (program_bytes is) m n a e r)

@@ -1,7 +1,10 @@
 -- A program laid out: at each offset the record that starts there. Assumes nothing.
-use Rattle.std.specs.Prelude.{ℕ, ◌-◌, Bool, true, false, cond, ◌&&◌, List, [], ◌∷◌, ◌++◌, length, replicate, Some, None, Option, ◌==◌, nat_le, nat_lt}
+use Rattle.std.specs.Prelude.{ℕ, ◌-◌, Bool, true, false, cond, ◌&&◌, List, [], ◌∷◌, length, replicate, Some, None, Ok, Err, Option, Result, ◌==◌, nat_le, nat_lt}
+use Rattle.std.specs.List.{filter_map, flat_map}
 use Rattle.cisca.specs.declared.instruction.Instruction.{Instruction}
 use Rattle.codec.specs.Encoding.{bytes}
+use Rattle.loading.specs.declared.layout.fault.LayoutFault.{LayoutFault}
+use Rattle.loading.specs.declared.layout.fault.LayoutFault.TheVariants as fault
 use Rattle.program.specs.Programs.{program_bytes}
 
 -- the record that starts at the offset k, where its bytes begin
@@ -15,14 +18,11 @@ room_of i = Some i ∷ replicate (length (bytes i) - 1) None
 
 -- the records one behind the other
 abbrev pub laid_out : List Instruction → List (Option Instruction)
-laid_out [] = []
-laid_out (i ∷ is) = room_of i ++ laid_out is
+laid_out is = flat_map room_of is
 
 -- the records in a layout
 abbrev pub listed_records : List (Option Instruction) → List Instruction
-listed_records [] = []
-listed_records (None ∷ os) = listed_records os
-listed_records (Some i ∷ os) = i ∷ listed_records os
+listed_records os = filter_map (λ o. o) os
 
 -- a program has no record
 abbrev pub none_listed : List Instruction → Bool
@@ -36,6 +36,10 @@ short is = nat_le (length (program_bytes is)) 4096
 -- may a layout of this program take up another? It may where it has no record, and the other is short.
 abbrev pub fits : List Instruction → List Instruction → Bool
 fits old new = none_listed old && short new
+
+-- what is answered to that: a record that is there already comes first
+abbrev pub taking_up : List Instruction → List Instruction → Result (Unit {0}) LayoutFault
+taking_up old new = cond (none_listed old) (cond (short new) (Ok tt) (Err fault.TooLong)) (Err fault.Listed)
 
 -- the program of a layout that is to take up another
 abbrev pub relisted : List Instruction → List Instruction → List Instruction

@@ -2,7 +2,6 @@
 ghost use Rattle.std.specs.Prelude.{◌≡◌, length};
 ghost use Rattle.codec.specs.Encoding.{bytes};
 ghost use Rattle.loading.specs.Laid.{HoldsFixed, OthersStay, ReadsAsListed, laid, vacancy};
-ghost use Rattle.memory.specs.Cells.{written};
 ghost use Rattle.program.specs.Programs.{program_bytes};
 ghost use Rattle.quantity.specs.Sums.{later};
 
@@ -25,22 +24,14 @@ pub fn vacant<S: Store>(store: &S, at: Address, count: usize) -> Result<(), Stor
     Ok(())
 }
 
-// Writes a byte, unless it is refused, and answers the address behind it.
-fn lay_byte<S: Store>(store: &mut S, at: Address, byte: u8) -> Address
-    ensures after { S.Readable.cells store.new ≡ written (S.Readable.cells store.old) at.0 byte }
-    ensures behind { result ≡ later at 1 }
-{
-    let _ = store.write(at, byte);
-    at.later(1)
-}
-
 // Writes bytes from an address on; one that is refused is left out.
 fn lay<S: Store>(store: &mut S, at: Address, source: &[u8])
     ensures { S.Readable.cells store.new ≡ laid (S.Readable.cells store.old) at source.now }
 {
     let mut next = at;
     for byte in source {
-        next = lay_byte(store, next, *byte);
+        let _ = store.write(next, *byte);
+        next = next.later(1);
     }
 }
 

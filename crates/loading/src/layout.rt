@@ -5,7 +5,11 @@ ghost use Rattle.loading.specs.Layouts.{laid_out, listed_records};
 use cisca::instruction::Instruction;
 
 pub mod calls;
+pub mod fault;
 mod rows;
+
+// How many bytes a program may have.
+pub const MOST_BYTES: usize = 4096;
 
 // A record stands at the offset of its first byte, and nothing at those of its other bytes, so that
 // the record that starts at an offset is found at once.

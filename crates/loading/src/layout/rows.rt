@@ -11,19 +11,18 @@ use codec::writer::encoded_length;
 fn push_record(rows: &mut Vec<Option<Instruction>>, instruction: &Instruction)
     requires { vec_len rows.old + length (bytes instruction.now) ≤ vec_capacity rows.old }
     ensures items { rows.new.items ≡ rows.old.items ++ room_of instruction.now }
-    ensures capacity { vec_capacity rows.new ≡ vec_capacity rows.old }
+    ensures room { vec_len rows.new ≡ vec_len rows.old + length (bytes instruction.now) }
+    ensures capacity { vec_capacity rows.old ≤ vec_capacity rows.new }
 {
-    let size = encoded_length(instruction);
+    let end = rows.len() + encoded_length(instruction);
     rows.push_reserved(Some(*instruction));
-    for k in 1..size {
-        rows.push_reserved(None);
-    }
+    rows.resize(end, None).unwrap();
 }
 
 pub(crate) fn push_program(rows: &mut Vec<Option<Instruction>>, program: &[Instruction])
     requires { vec_len rows.old + length (program_bytes program.now) ≤ vec_capacity rows.old }
     ensures items { rows.new.items ≡ rows.old.items ++ laid_out program.now }
-    ensures capacity { vec_capacity rows.new ≡ vec_capacity rows.old }
+    ensures capacity { vec_capacity rows.old ≤ vec_capacity rows.new }
 {
     for instruction in program {
         push_record(rows, instruction);

@@ -1,8 +1,8 @@
-use Rattle.std.proofs.Common.{◌≡◌, ℕ, sym, ◌∙◌, subst}
-use Rattle.memory.specs.Cells.{Cell}
+use Rattle.std.proofs.Common.{◌≡◌, ◌∙◌, arith}
+use Rattle.std.proofs.lemmas.Grind.{common_steps}
 use Rattle.program.specs.Programs.{program_bytes}
-use Rattle.loading.specs.Laid.{HoldsFixed, OthersStay, ReadsAsListed, laid}
-use Rattle.loading.proofs.Lays.{laid_all, laid_more}
+use Rattle.loading.specs.Laid.{laid}
+use Rattle.loading.proofs.Lays.{laid_more}
 use Rattle.loading.proofs.Ranges.{laid_elsewhere, sealed_reads, sealed_shows}
 use Rattle.loading.proofs.laying.lay_program.Goals as goal
 
@@ -19,10 +19,10 @@ returns g c =
     let a = c.args.at in
     let m = g.S.Readable.cells c.args.store.now in
     let n = g.S.Readable.cells c.loop-instruction.store in
-    let e : n ≡ laid m a (program_bytes is) = sym (laid_all is c.loop-instruction.instruction-index n c.loop-instruction.next c.loop-instruction-test.false) ∙ c.loop-instruction.invariant in
+    let e : n ≡ laid m a (program_bytes is) = grind (arith, common_steps) in
     record {
       after = e;
-      others_stay = subst (λ (f : ℕ → Cell). OthersStay m f a (program_bytes is)) (sym e) (laid_elsewhere (program_bytes is) m a);
-      holds_fixed = subst (λ (f : ℕ → Cell). HoldsFixed m f a (program_bytes is)) (sym e) (sealed_shows (program_bytes is) m a);
-      reads_as_listed = subst (λ (f : ℕ → Cell). ReadsAsListed m f a is) (sym e) (sealed_reads is m a);
+      others_stay = laid_elsewhere (program_bytes is) m n a e;
+      holds_fixed = sealed_shows (program_bytes is) m n a e;
+      reads_as_listed = sealed_reads is m n a e;
     }
