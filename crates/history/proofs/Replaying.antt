@@ -2,52 +2,61 @@
 use Rattle.std.proofs.Common.{◌≡◌, ℕ, Bool, true, false, cond, List, [], ◌∷◌, ◌++◌, reverse, length, is_some, Ok, Err, Result, sym, refl, ap, ◌∙◌, subst, add-one, arith}
 use mathlib.Core.List.{reverse-cons}
 use Rattle.execution.specs.Contexts.{blamed}
-use Rattle.history.specs.Calls.{Call, kind}
+use Rattle.history.specs.Calls.{Backward, Call, Clearing, Journaled, Kind, Looking, kind}
 use Rattle.history.specs.Calls as call
-use Rattle.history.specs.Runs.{after, answered, answers, runs, said, stepped, taken}
+use Rattle.history.specs.Runs.{after, answered, answers, runs, said, stepped, taken, told}
 use Rattle.history.specs.Standing.{Stood, answers_of, calls_of, counted, counted_as, entries_due, joined, kept, last_kept, standing, struck}
-use Rattle.history.specs.declared.call.Answer.TheVariants as answer
-use Rattle.history.specs.declared.call.Kind.{Kind}
-use Rattle.history.specs.declared.call.Kind.TheVariants.{Backward, Clearing, Journaled, Looking}
+use Rattle.history.specs.declared.call.Outcome.{Outcome}
+use Rattle.history.specs.declared.call.Outcome.TheVariants as outcome
+use Rattle.history.specs.declared.call.Refusal.{Refusal}
+use Rattle.history.specs.declared.call.Refusal.TheVariants as refusal
 use Rattle.journal.specs.Stories.{back_answer}
 use Rattle.machine.specs.Calls.{back_made, back_said, port_set, request_said, requested, set_port_said, set_word_said, word_set}
 use Rattle.machine.specs.Loads.{admitted, installed}
 use Rattle.machine.specs.States.{Said, State, granted, loaded, moved, present, upon}
-use Rattle.machine.specs.Steps.{Execution, Outcome, answer_of, left_by, outcome}
+use Rattle.machine.specs.Steps.{Execution, answer_of, left_by}
+use Rattle.machine.specs.Steps as steps
 use Rattle.machine.specs.declared.fault.CallFault.{CallFault}
 use Rattle.machine.specs.declared.fault.CallFault.TheVariants as fault
 use Rattle.processor.specs.Views.{View}
 use Rattle.words.specs.Words.{and_then}
 
 -- taken or not, a call by its answer
+
+upon_taken : {X F : Type 0} (f : X → Outcome) (g : F → Refusal) (r : Result X F) (t s : State) → taken (told f g r) ≡ true → upon r t s ≡ t
+upon_taken f g (Ok x) t s e = refl
+upon_taken f g (Err y) t s e = cc
+
+upon_refused : {X F : Type 0} (f : X → Outcome) (g : F → Refusal) (r : Result X F) (t s : State) → taken (told f g r) ≡ false → upon r t s ≡ s
+upon_refused f g (Ok x) t s e = cc
+upon_refused f g (Err y) t s e = refl
+
 done : (r : Said) (t s : State) → taken (said r) ≡ true → upon r t s ≡ t
-done (Ok u) t s e = refl
-done (Err f) t s e = let z : ◌≡◌ {A = ℕ} 0 1 = cc in absurd (omega arith)
+done r t s e = upon_taken _ _ r t s e
 
 undone : (r : Said) (t s : State) → taken (said r) ≡ false → upon r t s ≡ s
-undone (Ok u) t s e = let z : ◌≡◌ {A = ℕ} 0 1 = cc in absurd (omega arith)
-undone (Err f) t s e = refl
+undone r t s e = upon_refused _ _ r t s e
 
 load_done : (r : Result ℕ CallFault) (t s : State) → taken (said (and_then r λ _. Ok tt)) ≡ true → upon r t s ≡ t
 load_done (Ok n) t s e = refl
-load_done (Err f) t s e = let z : ◌≡◌ {A = ℕ} 0 1 = cc in absurd (omega arith)
+load_done (Err f) t s e = cc
 
 load_undone : (r : Result ℕ CallFault) (t s : State) → taken (said (and_then r λ _. Ok tt)) ≡ false → upon r t s ≡ s
-load_undone (Ok n) t s e = let z : ◌≡◌ {A = ℕ} 0 1 = cc in absurd (omega arith)
+load_undone (Ok n) t s e = cc
 load_undone (Err f) t s e = refl
 
-step_done : (o : Outcome) (s : State) → taken (stepped (answer_of o)) ≡ true → (v : View) × (left_by o s ≡ moved v s)
+step_done : (o : steps.Outcome) (s : State) → taken (stepped (answer_of o)) ≡ true → (v : View) × (left_by o s ≡ moved v s)
 step_done (Ok p) s e = (p.1, refl)
-step_done (Err f) s e = let z : ◌≡◌ {A = ℕ} 0 1 = cc in absurd (omega arith)
+step_done (Err f) s e = absurd cc
 
-step_undone : (o : Outcome) (s : State) → taken (stepped (answer_of o)) ≡ false → left_by o s ≡ s
-step_undone (Ok p) s e = let z : ◌≡◌ {A = ℕ} 0 1 = cc in absurd (omega arith)
+step_undone : (o : steps.Outcome) (s : State) → taken (stepped (answer_of o)) ≡ false → left_by o s ≡ s
+step_undone (Ok p) s e = cc
 step_undone (Err f) s e = refl
 
 -- a refused call changes nothing
 refused_keeps : (x : Execution) (c : Call) (s : State) → taken (answered x c s) ≡ false → after x c s ≡ s
 refused_keeps x (call.Load a p) s e = load_undone (admitted a p s) _ s e
-refused_keeps x call.Step s e = step_undone (outcome x s) s e
+refused_keeps x call.Step s e = step_undone (steps.outcome x s) s e
 refused_keeps x (call.SetWord a n) s e = undone (set_word_said a s) _ s e
 refused_keeps x (call.SetPort q n) s e = undone (set_port_said q s) _ s e
 refused_keeps x (call.Request i) s e = undone (request_said i s) _ s e
@@ -57,44 +66,44 @@ refused_keeps x (call.Look l) s e = refl
 
 -- a journaled call moves to a view, and a clearing one leaves no past
 moves_on : (x : Execution) (c : Call) (s : State) → kind c ≡ Journaled → taken (answered x c s) ≡ true → (v : View) × (after x c s ≡ moved v s)
-moves_on x (call.Load a p) s k e = let z : ◌≡◌ {A = ℕ} 0 1 = cc in absurd (omega arith)
-moves_on x call.Step s k e = step_done (outcome x s) s e
+moves_on x (call.Load a p) s k e = absurd cc
+moves_on x call.Step s k e = step_done (steps.outcome x s) s e
 moves_on x (call.SetWord a n) s k e = (word_set a n (present s), done (set_word_said a s) _ s e)
 moves_on x (call.SetPort q n) s k e = (port_set q n (present s), done (set_port_said q s) _ s e)
 moves_on x (call.Request i) s k e = (requested i (present s), done (request_said i s) _ s e)
-moves_on x call.Release s k e = let z : ◌≡◌ {A = ℕ} 0 1 = cc in absurd (omega arith)
-moves_on x call.Back s k e = let z : ◌≡◌ {A = ℕ} 0 1 = cc in absurd (omega arith)
-moves_on x (call.Look l) s k e = let z : ◌≡◌ {A = ℕ} 0 1 = cc in absurd (omega arith)
+moves_on x call.Release s k e = absurd cc
+moves_on x call.Back s k e = absurd cc
+moves_on x (call.Look l) s k e = absurd cc
 
 clears : (x : Execution) (c : Call) (s : State) → kind c ≡ Clearing → taken (answered x c s) ≡ true → (after x c s).story.past ≡ []
 clears x (call.Load a p) s k e = ap (λ t. t.story.past) (load_done (admitted a p s) (installed a p s) s e)
-clears x call.Step s k e = let z : ◌≡◌ {A = ℕ} 0 1 = cc in absurd (omega arith)
-clears x (call.SetWord a n) s k e = let z : ◌≡◌ {A = ℕ} 0 1 = cc in absurd (omega arith)
-clears x (call.SetPort q n) s k e = let z : ◌≡◌ {A = ℕ} 0 1 = cc in absurd (omega arith)
-clears x (call.Request i) s k e = let z : ◌≡◌ {A = ℕ} 0 1 = cc in absurd (omega arith)
+clears x call.Step s k e = cc
+clears x (call.SetWord a n) s k e = cc
+clears x (call.SetPort q n) s k e = cc
+clears x (call.Request i) s k e = cc
 clears x call.Release s k e = ap (λ t. t.story.past) (done (loaded s) _ s e)
-clears x call.Back s k e = let z : ◌≡◌ {A = ℕ} 0 1 = cc in absurd (omega arith)
-clears x (call.Look l) s k e = let z : ◌≡◌ {A = ℕ} 0 1 = cc in absurd (omega arith)
+clears x call.Back s k e = cc
+clears x (call.Look l) s k e = cc
 
 -- the only backward call, and what a looking one leaves
 is_back : (c : Call) → kind c ≡ Backward → c ≡ call.Back
-is_back (call.Load a p) k = let z : ◌≡◌ {A = ℕ} 0 1 = cc in absurd (omega arith)
-is_back call.Step k = let z : ◌≡◌ {A = ℕ} 0 1 = cc in absurd (omega arith)
-is_back (call.SetWord a n) k = let z : ◌≡◌ {A = ℕ} 0 1 = cc in absurd (omega arith)
-is_back (call.SetPort q n) k = let z : ◌≡◌ {A = ℕ} 0 1 = cc in absurd (omega arith)
-is_back (call.Request i) k = let z : ◌≡◌ {A = ℕ} 0 1 = cc in absurd (omega arith)
-is_back call.Release k = let z : ◌≡◌ {A = ℕ} 0 1 = cc in absurd (omega arith)
+is_back (call.Load a p) k = cc
+is_back call.Step k = cc
+is_back (call.SetWord a n) k = cc
+is_back (call.SetPort q n) k = cc
+is_back (call.Request i) k = cc
+is_back call.Release k = cc
 is_back call.Back k = refl
-is_back (call.Look l) k = let z : ◌≡◌ {A = ℕ} 0 1 = cc in absurd (omega arith)
+is_back (call.Look l) k = cc
 
 looks : (x : Execution) (c : Call) (s : State) → kind c ≡ Looking → after x c s ≡ s
-looks x (call.Load a p) s k = let z : ◌≡◌ {A = ℕ} 0 1 = cc in absurd (omega arith)
-looks x call.Step s k = let z : ◌≡◌ {A = ℕ} 0 1 = cc in absurd (omega arith)
-looks x (call.SetWord a n) s k = let z : ◌≡◌ {A = ℕ} 0 1 = cc in absurd (omega arith)
-looks x (call.SetPort q n) s k = let z : ◌≡◌ {A = ℕ} 0 1 = cc in absurd (omega arith)
-looks x (call.Request i) s k = let z : ◌≡◌ {A = ℕ} 0 1 = cc in absurd (omega arith)
-looks x call.Release s k = let z : ◌≡◌ {A = ℕ} 0 1 = cc in absurd (omega arith)
-looks x call.Back s k = let z : ◌≡◌ {A = ℕ} 0 1 = cc in absurd (omega arith)
+looks x (call.Load a p) s k = cc
+looks x call.Step s k = cc
+looks x (call.SetWord a n) s k = cc
+looks x (call.SetPort q n) s k = cc
+looks x (call.Request i) s k = cc
+looks x call.Release s k = cc
+looks x call.Back s k = cc
 looks x (call.Look l) s k = refl
 
 -- a back leads to the state before
@@ -102,8 +111,8 @@ undoes : (v : View) (s : State) → taken (said (back_said (moved v s))) ≡ tru
 undoes v s t = done (back_said (moved v s)) _ (moved v s) t
 
 never : (r : Said) (f : CallFault) → taken (said (and_then r λ _. Err f)) ≡ true → ⊥
-never (Ok u) f e = let z : ◌≡◌ {A = ℕ} 0 1 = cc in omega arith
-never (Err g) f e = let z : ◌≡◌ {A = ℕ} 0 1 = cc in omega arith
+never (Ok u) f e = cc
+never (Err g) f e = cc
 
 -- no back is taken where there is no past
 no_past : (s : State) → s.story.past ≡ [] → taken (said (back_said s)) ≡ true → ⊥
@@ -262,32 +271,31 @@ module _ (x : Execution) (s : State) where
       ∙ ap (λ n. counted n (p.0 ∷ [])) (count_built r z g.3)
       ∙ sym (ap (counted 0) (split_calls p r) ∙ counted_append 0 (calls_of (reverse r)) (p.0 ∷ []))
 
-refused_zero : (r : Said) (l : List View) → said (and_then r λ _. blamed (λ _. fault.NoEntry) (back_answer l)) ≡ answer.Refused fault.NoEntry → r ≡ Ok tt → length l ≡ 0
+refused_zero : (r : Said) (l : List View) → said (and_then r λ _. blamed (λ _. fault.NoEntry) (back_answer l)) ≡ Err (refusal.Call fault.NoEntry) → r ≡ Ok tt → length l ≡ 0
 refused_zero r [] e k = refl
 refused_zero r (v ∷ l) e k =
-    let f : answer.Done ≡ answer.Refused fault.NoEntry = sym (ap (λ r. said (and_then r λ _. Ok tt)) k) ∙ e in
-    let z : ◌≡◌ {A = ℕ} 0 1 = cc in absurd (omega arith)
+    let f : Ok outcome.Done ≡ Err (refusal.Call fault.NoEntry) = sym (ap (λ r. said (and_then r λ _. Ok tt)) k) ∙ e in cc
 
 abbrev gate : Bool → Said
 gate t = granted t fault.NoProgram
 
 -- a machine that is not loaded gives another refusal
-loaded_if : (t : Bool) (l : List View) → said (and_then (gate t) λ _. blamed (λ _. fault.NoEntry) (back_answer l)) ≡ answer.Refused fault.NoEntry → length l ≡ 0
+loaded_if : (t : Bool) (l : List View) → said (and_then (gate t) λ _. blamed (λ _. fault.NoEntry) (back_answer l)) ≡ Err (refusal.Call fault.NoEntry) → length l ≡ 0
 loaded_if true l e = refused_zero (Ok tt) l e refl
-loaded_if false l e = let z : ◌≡◌ {A = ℕ} 0 1 = cc in absurd (omega arith)
+loaded_if false l e = cc
 
-zero_refused : (t : Bool) (l : List View) → t ≡ true → length l ≡ 0 → said (and_then (gate t) λ _. blamed (λ _. fault.NoEntry) (back_answer l)) ≡ answer.Refused fault.NoEntry
+zero_refused : (t : Bool) (l : List View) → t ≡ true → length l ≡ 0 → said (and_then (gate t) λ _. blamed (λ _. fault.NoEntry) (back_answer l)) ≡ Err (refusal.Call fault.NoEntry)
 zero_refused true [] k e = refl
 zero_refused true (v ∷ l) k e = absurd (omega arith)
-zero_refused false l k e = let z : ◌≡◌ {A = ℕ} 0 1 = cc in absurd (omega arith)
+zero_refused false l k e = cc
 
 -- what the standing calls of a list give when they are run again
 pub record Replays (x : Execution) (s : State) (cs : List Call) : Type 0 where
   pub same : runs x (calls_of (standing x cs s [])) s ≡ runs x cs s
   pub again : answers x (calls_of (standing x cs s [])) s ≡ answers_of (standing x cs s [])
   pub count : length (runs x cs s).story.past ≡ entries_due (standing x cs s [])
-  pub refused : answered x call.Back (runs x cs s) ≡ answer.Refused fault.NoEntry → entries_due (standing x cs s []) ≡ 0
-  pub refuses : entries_due (standing x cs s []) ≡ 0 → is_some (runs x cs s).program ≡ true → answered x call.Back (runs x cs s) ≡ answer.Refused fault.NoEntry
+  pub refused : answered x call.Back (runs x cs s) ≡ Err (refusal.Call fault.NoEntry) → entries_due (standing x cs s []) ≡ 0
+  pub refuses : entries_due (standing x cs s []) ≡ 0 → is_some (runs x cs s).program ≡ true → answered x call.Back (runs x cs s) ≡ Err (refusal.Call fault.NoEntry)
 
 -- every list of calls, from every state with an empty journal, over every execution
 pub replays : (x : Execution) (s : State) → s.story.past ≡ [] → (cs : List Call) → Replays x s cs

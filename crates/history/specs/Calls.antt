@@ -1,8 +1,6 @@
 -- Calls on a machine, as the laws see them. Assumes nothing.
 use Rattle.std.specs.Prelude.{ℕ, List}
 use Rattle.cisca.specs.declared.instruction.Instruction.{Instruction}
-use Rattle.history.specs.declared.call.Kind.{Kind}
-use Rattle.history.specs.declared.call.Kind.TheVariants.{Backward, Clearing, Journaled, Looking}
 use Rattle.machine.specs.declared.machine.look.Look as looks
 use Rattle.quantity.specs.declared.Address.{Address}
 use Rattle.quantity.specs.declared.Number.{Number}
@@ -18,7 +16,14 @@ pub data Call : Type 0 where
   Back : Call
   Look : looks.Look → Call
 
--- what a call does with the journal
+-- what a call does with the journal: step, set word, set port and request add an entry, load and release leave it empty,
+-- back strikes an entry, and look leaves it
+pub data Kind : Type 0 where
+  Journaled : Kind
+  Clearing : Kind
+  Backward : Kind
+  Looking : Kind
+
 abbrev pub kind : Call → Kind
 kind (Load a p) = Clearing
 kind Step = Journaled

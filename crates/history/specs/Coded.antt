@@ -3,8 +3,8 @@ use Rattle.std.specs.Prelude.{List, [], ◌∷◌, vec_items}
 use Rattle.std.specs.Borrow.{Bor}
 use Rattle.history.specs.Calls.{Call}
 use Rattle.history.specs.Calls as call
+use Rattle.history.specs.Runs.{Answer}
 use Rattle.history.specs.Standing.{Stood}
-use Rattle.history.specs.declared.call.Answer.{Answer}
 use Rattle.history.specs.declared.call.Call as code
 use Rattle.history.specs.declared.call.Call.TheVariants as the
 

@@ -1,12 +1,12 @@
 -- What holds after every list of calls on a new machine. Assumes nothing.
-use Rattle.std.specs.Prelude.{◌≡◌, ℕ, ◌-◌, ◌^◌, ◌<◌, ◌≤◌, true, List, [], ◌∷◌, ◌++◌, length, is_some, Some, Ok, Option}
+use Rattle.std.specs.Prelude.{◌≡◌, ℕ, ◌-◌, ◌^◌, ◌<◌, ◌≤◌, true, List, [], ◌∷◌, ◌++◌, length, is_some, Some, Ok, Err, Option}
 use Rattle.cisca.specs.declared.instruction.Instruction.{Instruction}
 use Rattle.history.specs.Calls.{Call}
 use Rattle.history.specs.Calls as call
-use Rattle.history.specs.Runs.{after, answered, answers, runs, taken}
+use Rattle.history.specs.Runs.{Answer, after, answered, answers, runs, taken}
 use Rattle.history.specs.Standing.{Stood, answers_of, calls_of, entries_due, standing}
-use Rattle.history.specs.declared.call.Answer.{Answer}
-use Rattle.history.specs.declared.call.Answer.TheVariants as answer
+use Rattle.history.specs.declared.call.Outcome.TheVariants as outcome
+use Rattle.history.specs.declared.call.Refusal.TheVariants as refusal
 use Rattle.loading.specs.Laid.{ReadsAs}
 use Rattle.loading.specs.Layouts.{starting}
 use Rattle.machine.specs.Machines.{fresh}
@@ -54,12 +54,12 @@ pub record History (x : Execution) (m : ℕ → Cell) (w : ℕ → Option ℕ) (
   pub counts : length first.story.past ≡ entries_due stood
   -- back_refused: a back is refused for want of an entry exactly where there is none of these; without a program it is
   -- refused for that
-  pub back_refused : answered x call.Back first ≡ answer.Refused fault.NoEntry → entries_due stood ≡ 0
-  pub back_refuses : entries_due stood ≡ 0 → is_some first.program ≡ true → answered x call.Back first ≡ answer.Refused fault.NoEntry
+  pub back_refused : answered x call.Back first ≡ Err (refusal.Call fault.NoEntry) → entries_due stood ≡ 0
+  pub back_refuses : entries_due stood ≡ 0 → is_some first.program ≡ true → answered x call.Back first ≡ Err (refusal.Call fault.NoEntry)
   -- reads_as_listed: once a load is taken, just the program's range reads as its list, at every later time
   pub reads_as_listed : (bs ds es : List Call) (a : Address) (p : List Instruction) → cs ≡ bs ++ (call.Load a p ∷ (ds ++ es)) → LoadTaken x (fresh m w) bs a p
       → ReadsAs (present (then_runs x (fresh m w) bs a p ds)).memory a p
   -- does_what_is_listed: a step that is taken then, and is no delivery, does a record of that list
   pub does_what_is_listed : (bs ds es : List Call) (a : Address) (p : List Instruction) → cs ≡ bs ++ (call.Load a p ∷ (ds ++ es)) → LoadTaken x (fresh m w) bs a p
-      → (at : Address) (i : Instruction) → answered x call.Step (then_runs x (fresh m w) bs a p ds) ≡ answer.Stepped (Executed at i)
+      → (at : Address) (i : Instruction) → answered x call.Step (then_runs x (fresh m w) bs a p ds) ≡ Ok (outcome.Stepped (Executed at i))
       → DoesListed x (then_runs x (fresh m w) bs a p ds) a p at i

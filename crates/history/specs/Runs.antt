@@ -1,9 +1,11 @@
 -- What each call answers and leaves, and lists of calls. Assumes nothing.
-use Rattle.std.specs.Prelude.{Bool, true, false, List, [], ◌∷◌, Ok, Err, Result}
+use Rattle.std.specs.Prelude.{Bool, List, [], ◌∷◌, is_ok, Ok, Err, Result}
 use Rattle.history.specs.Calls.{Call}
 use Rattle.history.specs.Calls as call
-use Rattle.history.specs.declared.call.Answer.{Answer}
-use Rattle.history.specs.declared.call.Answer.TheVariants as answer
+use Rattle.history.specs.declared.call.Outcome.{Outcome}
+use Rattle.history.specs.declared.call.Outcome.TheVariants as outcome
+use Rattle.history.specs.declared.call.Refusal.{Refusal}
+use Rattle.history.specs.declared.call.Refusal.TheVariants as refusal
 use Rattle.machine.specs.Calls.{back_made, back_said, look_said, release_made, request_made, request_said, set_port_made, set_port_said, set_word_made, set_word_said}
 use Rattle.machine.specs.Loads.{load_made, load_said}
 use Rattle.machine.specs.States.{Said, State, loaded}
@@ -13,17 +15,23 @@ use Rattle.machine.specs.declared.machine.look.Shown.{Shown}
 use Rattle.machine.specs.declared.machine.step.Stepped.{Stepped}
 use Rattle.processor.specs.declared.fault.StepFault.{StepFault}
 
+-- what a call is answered
+abbrev pub Answer : Type 0
+Answer = Result Outcome Refusal
+
+-- the answer of a call, told of what the machine said
+abbrev pub told : {X F : Type 0} → (X → Outcome) → (F → Refusal) → Result X F → Answer
+told done by (Ok x) = Ok (done x)
+told done by (Err f) = Err (by f)
+
 abbrev pub said : Said → Answer
-said (Ok u) = answer.Done
-said (Err f) = answer.Refused f
+said r = told (λ _. outcome.Done) refusal.Call r
 
 abbrev pub stepped : Result Stepped StepFault → Answer
-stepped (Ok t) = answer.Stepped t
-stepped (Err f) = answer.StepRefused f
+stepped r = told outcome.Stepped refusal.Step r
 
 abbrev pub showed : Result Shown CallFault → Answer
-showed (Ok x) = answer.Shown x
-showed (Err f) = answer.Refused f
+showed r = told outcome.Shown refusal.Call r
 
 -- the answer to a call on a machine in this state
 abbrev pub answered : Execution → Call → State → Answer
@@ -59,8 +67,4 @@ answers x (c ∷ cs) s = answered x c s ∷ answers x cs (after x c s)
 
 -- was the call taken?
 abbrev pub taken : Answer → Bool
-taken answer.Done = true
-taken (answer.Stepped t) = true
-taken (answer.Shown t) = true
-taken (answer.Refused f) = false
-taken (answer.StepRefused f) = false
+taken r = is_ok r

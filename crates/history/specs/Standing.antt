@@ -1,11 +1,8 @@
 -- The standing calls: those of a list whose doing still shows. They are told from the calls and whether each was taken,
 -- and from nothing else. Assumes nothing.
 use Rattle.std.specs.Prelude.{ℕ, ◌+◌, cond, List, [], ◌∷◌, ◌++◌, map}
-use Rattle.history.specs.Calls.{Call, kind}
-use Rattle.history.specs.Runs.{after, answered, taken}
-use Rattle.history.specs.declared.call.Answer.{Answer}
-use Rattle.history.specs.declared.call.Kind.{Kind}
-use Rattle.history.specs.declared.call.Kind.TheVariants.{Backward, Clearing, Journaled, Looking}
+use Rattle.history.specs.Calls.{Backward, Call, Clearing, Journaled, Kind, Looking, kind}
+use Rattle.history.specs.Runs.{Answer, after, answered, taken}
 use Rattle.machine.specs.States.{State}
 use Rattle.machine.specs.Steps.{Execution}
 

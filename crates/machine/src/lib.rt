@@ -3,3 +3,4 @@
 
 pub mod fault;
 pub mod machine;
+pub mod saw_box;

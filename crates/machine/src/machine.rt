@@ -11,16 +11,17 @@ use ports::Ports;
 use ports::port_space::PortSpace;
 use quantity::Address;
 
-pub mod load;
+mod calls;
+mod load;
 pub mod look;
 pub mod making;
-pub mod settings;
+mod ready;
 pub mod step;
-pub mod undoing;
 
 // The caller's store lies under a seal, which covers no byte until a program is loaded and the
 // program's bytes from then on. The layout has the record at each offset from the base, the address
-// of the program's first byte. All the memory that it needs is taken when it is made.
+// of the program's first byte. All the memory that it needs is taken when it is made, the layout's too:
+// so while no program is loaded the layout has no record, and is no Option.
 #[derive(Drop)]
 pub struct Machine<S, P> {
     system: Journaled<Seal<AddressSpace<S>>, PortSpace<P>>,

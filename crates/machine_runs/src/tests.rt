@@ -2,9 +2,13 @@
 // run of them gives.
 use cisca::instruction::Instruction;
 use cisca::operation::Operation;
+use history::call::{Call, Outcome, Refusal};
+use history::perform::perform;
+use machine::fault::CallFault;
 use machine::machine::Machine;
 use machine::machine::look::{Look, Shown};
 use machine::machine::step::Stepped;
+use machine::saw_box::SawBox;
 use memory::chip::Chip;
 use operands::operand::Operand;
 use operands::register::Register;
@@ -132,5 +136,21 @@ fn loads_are_refused_in_their_order(rt: HostRuntime) -> Result<(), Fail> {
         return Err(Fail::new("written over the program"));
     };
     assert!(rt; sealed.number() == 11);
+    Ok(())
+}
+
+#[test]
+fn calls_are_done_as_data(rt: HostRuntime) -> Result<(), Fail> {
+    let mut machine = fitted(rt.alloc())?;
+    let r1 = Call::Look(Look::Register(Register::new(1)));
+    let program = vec![in rt.alloc(); increment(1)?]?;
+    let stepped = Outcome::Stepped(Stepped::Executed(START, increment(1)?));
+    assert!(rt; perform(&mut machine, &Call::Load(START, program)) == Ok(Outcome::Done));
+    assert!(rt; perform(&mut machine, &Call::Step) == Ok(stepped));
+    assert!(rt; perform(&mut machine, &r1) == Ok(Outcome::Shown(Shown::Word(Number(1)))));
+    assert!(rt; perform(&mut machine, &Call::Back) == Ok(Outcome::Done));
+    assert!(rt; perform(&mut machine, &r1) == Ok(Outcome::Shown(Shown::Word(Number(0)))));
+    let refused = Err(Refusal::Call(CallFault::NoEntry));
+    assert!(rt; perform(&mut machine, &Call::Back) == refused);
     Ok(())
 }
