@@ -1,6 +1,7 @@
 -- The standing calls, run again, by induction on the calls. Assumes nothing.
 use Rattle.std.proofs.Common.{◌≡◌, ℕ, Bool, true, false, cond, List, [], ◌∷◌, ◌++◌, reverse, length, is_some, Ok, Err, Result, sym, refl, ap, ◌∙◌, subst, add-one, arith}
 use mathlib.Core.List.{reverse-cons}
+use Rattle.std.proofs.lemmas.List.{map-append}
 use Rattle.execution.specs.Contexts.{blamed}
 use Rattle.history.specs.Calls.{Backward, Call, Clearing, Journaled, Kind, Looking, kind}
 use Rattle.history.specs.Calls as call
@@ -228,20 +229,12 @@ answers_append : (x : Execution) (xs ys : List Call) (s : State) → answers x (
 answers_append x [] ys s = refl
 answers_append x (c ∷ xs) ys s = ap (λ l. answered x c s ∷ l) (answers_append x xs ys (after x c s))
 
-calls_append : (xs ys : List Stood) → calls_of (xs ++ ys) ≡ calls_of xs ++ calls_of ys
-calls_append [] ys = refl
-calls_append (p ∷ xs) ys = ap (λ l. p.0 ∷ l) (calls_append xs ys)
-
-answers_of_append : (xs ys : List Stood) → answers_of (xs ++ ys) ≡ answers_of xs ++ answers_of ys
-answers_of_append [] ys = refl
-answers_of_append (p ∷ xs) ys = ap (λ l. p.1 ∷ l) (answers_of_append xs ys)
-
 counted_append : (n : ℕ) (xs ys : List Call) → counted n (xs ++ ys) ≡ counted (counted n xs) ys
 counted_append n [] ys = refl
 counted_append n (c ∷ xs) ys = counted_append (counted_as (kind c) n) xs ys
 
 split_calls : (p : Stood) (r : List Stood) → calls_of (reverse (p ∷ r)) ≡ calls_of (reverse r) ++ (p.0 ∷ [])
-split_calls p r = ap calls_of (reverse-cons p r) ∙ calls_append (reverse r) (p ∷ [])
+split_calls p r = ap calls_of (reverse-cons p r) ∙ map-append (λ (q : Stood). q.0) (reverse r) (p ∷ [])
 
 count_one : (x : Execution) (c : Call) (s : State) (k : Kind) → kind c ≡ k → May k → taken (answered x c s) ≡ true → length (after x c s).story.past ≡ counted_as k (length s.story.past)
 count_one x c s Journaled k m e = ap (λ t. length t.story.past) (moves_on x c s k e).1 ∙ sym (add-one _)
@@ -262,7 +255,7 @@ module _ (x : Execution) (s : State) where
       ∙ ap (λ l. l ++ (answered x p.0 (runs x (calls_of (reverse r)) s) ∷ [])) (answers_built r g.3)
       ∙ ap (λ t. answers_of (reverse r) ++ (answered x p.0 t ∷ [])) (runs_built r)
       ∙ ap (λ a. answers_of (reverse r) ++ (a ∷ [])) g.1
-      ∙ sym (ap answers_of (reverse-cons p r) ∙ answers_of_append (reverse r) (p ∷ []))
+      ∙ sym (ap answers_of (reverse-cons p r) ∙ map-append (λ (q : Stood). q.1) (reverse r) (p ∷ []))
 
   count_built : (r : List Stood) → s.story.past ≡ [] → Good x s r → length (built x s r).story.past ≡ counted 0 (calls_of (reverse r))
   count_built [] z g = ap length z

@@ -10,7 +10,7 @@ use processor::fault::StepFault;
 use quantity::{Address, Number, Port};
 
 // A call, as a value that owns its program.
-#[derive(PartialEq, Eq, Drop)]
+#[derive(PartialEq, Eq, Debug, Drop)]
 pub enum Call {
     Load(Address, Vec<Instruction>),
     Step,
@@ -23,7 +23,7 @@ pub enum Call {
 }
 
 // What is answered to a call that is taken.
-#[derive(Clone, Copy, PartialEq, Eq)]
+#[derive(Clone, Copy, PartialEq, Eq, Debug)]
 pub enum Outcome {
     Done,
     Stepped(Stepped),

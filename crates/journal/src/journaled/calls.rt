@@ -1,7 +1,7 @@
 // Recording effects, and taking them back.
 ghost use Rattle.std.specs.Prelude.{◌≡◌, length, IfOk};
 ghost use Rattle.journal.specs.Entries.{Undoes};
-ghost use Rattle.journal.specs.Stories.{back_answer, back_story, begun, forgotten, record_answer, record_story, roomy, story_of};
+ghost use Rattle.journal.specs.Stories.{back_answer, back_story, begun, forgotten, record_answer, record_story, roomy, story_of, Story};
 ghost use Rattle.processor.specs.Views.{view};
 
 use crate::commit::commit;
@@ -21,6 +21,37 @@ pub struct JournalFull;
 #[derive(Clone, Copy, PartialEq, Eq, Debug)]
 pub struct JournalEmpty;
 
+// A journal: effects are recorded in it, and taken back.
+pub trait Journal {
+    // The view now, and the views before each effect that was recorded.
+    ghost story: { Self → Story };
+
+    // How many entries there are.
+    fn count(&self) -> usize
+        ensures { result ≡ length (story self.now).past };
+
+    // Whether there is room for one more.
+    fn has_room(&self) -> bool
+        ensures { result ≡ roomy (story self.now) }
+    {
+        self.count() < 256
+    }
+
+    // Makes an effect true, and adds its entry; without room nothing changes.
+    fn record(&mut self, effect: Effect) -> Result<(), JournalFull>
+        ensures answers { result ≡ record_answer (story self.old) }
+        ensures after { story self.new ≡ record_story effect (story self.old) };
+
+    // Strikes the latest entry, and takes back what it says.
+    fn take_back(&mut self) -> Result<(), JournalEmpty>
+        ensures answers { result ≡ back_answer (story self.old).past }
+        ensures after { story self.new ≡ back_story (story self.old).past (story self.old) };
+
+    // Empties the journal.
+    fn forget(&mut self)
+        ensures { story self.new ≡ forgotten (story self.old) };
+}
+
 impl<M: Store, P: Ports> Journaled<M, P> {
     // An empty journal, with room for 256 entries.
     pub fn new(heap: Global, processor: Processor, memory: M, ports: P) -> Result<Self, AllocError>
@@ -38,28 +69,18 @@ impl<M: Store, P: Ports> Journaled<M, P> {
             entries,
         })
     }
+}
 
-    // How many entries there are.
+impl<M: Store, P: Ports> Journal for Journaled<M, P> {
+    ghost story = { λ t. story_of M.Readable.cells P.Ports.words t };
+
     #[tactic(auto, using(crate::proofs::Telling::length_past))]
-    pub fn count(&self) -> usize
-        ensures { result ≡ length (story_of M.Readable.cells P.Ports.words self.now).past }
-    {
+    fn count(&self) -> usize {
         self.entries.len()
     }
 
-    // Whether there is room for one more.
-    pub fn has_room(&self) -> bool
-        ensures { result ≡ roomy (story_of M.Readable.cells P.Ports.words self.now) }
-    {
-        self.count() < 256
-    }
-
-    // Makes an effect true, and adds its entry; without room nothing changes.
     #[tactic(auto, using(crate::proofs::Telling::length_past, crate::proofs::Telling::earlier_pushed))]
-    pub fn record(&mut self, effect: Effect) -> Result<(), JournalFull>
-        ensures answers { result ≡ record_answer (story_of M.Readable.cells P.Ports.words self.old) }
-        ensures after { story_of M.Readable.cells P.Ports.words self.new ≡ record_story effect (story_of M.Readable.cells P.Ports.words self.old) }
-    {
+    fn record(&mut self, effect: Effect) -> Result<(), JournalFull> {
         if !self.has_room() {
             return Err(JournalFull);
         }
@@ -73,11 +94,7 @@ impl<M: Store, P: Ports> Journaled<M, P> {
         Ok(())
     }
 
-    // Strikes the latest entry, and takes back what it says.
-    pub fn take_back(&mut self) -> Result<(), JournalEmpty>
-        ensures answers { result ≡ back_answer (story_of M.Readable.cells P.Ports.words self.old).past }
-        ensures after { story_of M.Readable.cells P.Ports.words self.new ≡ back_story (story_of M.Readable.cells P.Ports.words self.old).past (story_of M.Readable.cells P.Ports.words self.old) }
-    {
+    fn take_back(&mut self) -> Result<(), JournalEmpty> {
         let entry = self.entries.pop().ok_or(JournalEmpty)?;
         undo(
             &mut self.processor,
@@ -88,10 +105,7 @@ impl<M: Store, P: Ports> Journaled<M, P> {
         Ok(())
     }
 
-    // Empties the journal.
-    pub fn forget(&mut self)
-        ensures { story_of M.Readable.cells P.Ports.words self.new ≡ forgotten (story_of M.Readable.cells P.Ports.words self.old) }
-    {
+    fn forget(&mut self) {
         self.entries.clear();
     }
 }

@@ -7,6 +7,7 @@ use crate::machine::look::{Look, Shown};
 use crate::machine::step::Stepped;
 use crate::saw_box::SawBox;
 use cisca::instruction::Instruction;
+use journal::journaled::calls::Journal;
 use memory::{Readable, Store};
 use ports::Ports;
 use processor::effect::{Change, Effect, PortWrite, StoreWrite};

@@ -6,6 +6,7 @@ ghost use Rattle.machine.specs.Machines.{state_of};
 use crate::fault::CallFault;
 use crate::machine::Machine;
 use cisca::instruction::Instruction;
+use journal::journaled::calls::Journal;
 use loading::laying::{lay_program, vacant};
 use loading::layout::MOST_BYTES;
 use memory::Store;

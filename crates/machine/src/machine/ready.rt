@@ -6,6 +6,7 @@ ghost use Rattle.processor.specs.Views.{applied};
 
 use crate::fault::CallFault;
 use crate::machine::Machine;
+use journal::journaled::calls::Journal;
 use memory::Store;
 use ports::Ports;
 use processor::effect::Effect;

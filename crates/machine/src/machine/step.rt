@@ -16,7 +16,7 @@ use processor::interrupt::InterruptIndex;
 use quantity::Address;
 
 // What a step did: the instruction that starts at an address, or the delivery of an interrupt.
-#[derive(Clone, Copy, PartialEq, Eq)]
+#[derive(Clone, Copy, PartialEq, Eq, Debug)]
 pub enum Stepped {
     Executed(Address, Instruction),
     Delivered(InterruptIndex),

@@ -1,7 +1,7 @@
 use Rattle.std.proofs.Common.{vec_items}
 use Rattle.journal.proofs.Telling.{earlier_pushed}
 use Rattle.journal.specs.Stories.{view_of}
-use Rattle.journal.proofs.journaled.Journaled.record.Goals as goal
+use Rattle.journal.proofs.journaled.calls.JournaledJournal.record.Goals as goal
 
 pub returns-clause-after : goal.returns-clause-after
 returns-clause-after g c =
