@@ -1,28 +1,31 @@
-// A chip: the caller's bytes from a base address on, all free.
-ghost use Rattle.std.specs.Prelude.{◌≡◌};
-ghost use Rattle.memory.specs.Cells.{chip, free};
+// A chip: bytes from a base address on, all free where it owns them.
+ghost use Rattle.std.specs.Prelude.{◌≡◌, length};
+ghost use Rattle.memory.specs.Access.{finding, reading};
+ghost use Rattle.memory.specs.Cells.{chip, fixed, free};
 
 use crate::fault::StoreFault;
-use crate::read_only_chip::ReadOnlyChip;
 use crate::{Readable, Store};
 use quantity::Address;
+use std::convert::AsSlice;
 
 // The bytes stand at `base`, `base` + 1 and so on; those that would stand above the last address
 // are absent.
-#[derive(Drop)]
-pub struct Chip {
+#[derive(Clone, Copy, Drop)]
+pub struct Chip<B = Vec<u8>> {
     base: Address,
-    bytes: Vec<u8>,
+    bytes: B,
 }
 
-impl Chip {
-    pub fn new(base: Address, bytes: Vec<u8>) -> Chip
+impl<B> Chip<B> {
+    pub fn new(base: Address, bytes: B) -> Chip<B>
         ensures based { result.base ≡ base }
         ensures holds { result.bytes ≡ bytes }
     {
         Chip { base, bytes }
     }
+}
 
+impl Chip {
     // The bytes, given back.
     pub fn into_bytes(self) -> Vec<u8>
         ensures { result ≡ self.bytes }
@@ -30,13 +33,26 @@ impl Chip {
         let Chip { base: _, bytes } = self;
         bytes
     }
+}
 
-    // The same bytes, only to be read.
-    fn read_only(&self) -> ReadOnlyChip<'_>
-        ensures based { result.base ≡ self.now.base }
-        ensures holds { result.bytes.now ≡ self.now.bytes.items }
+impl<B: AsSlice<u8>> Chip<B> {
+    // Which of the bytes stands at an address, or a refusal where none does.
+    fn index_of(&self, at: Address) -> Result<usize, StoreFault>
+        ensures { result ≡ finding self.now.base.0 (length (B.items self.now.bytes)) at }
     {
-        ReadOnlyChip::new(self.base, &self.bytes)
+        let count = self.bytes.as_slice().len();
+        at.0.checked_sub(self.base.0)
+            .map(|offset| offset as usize)
+            .filter(|index| *index < count)
+            .ok_or(StoreFault::Absent(at))
+    }
+
+    // The byte at an address. A reader sees it alike whether it is free or fixed.
+    pub(crate) fn byte_at(&self, at: Address) -> Result<u8, StoreFault>
+        ensures { result ≡ reading (chip fixed self.now.base.0 (B.items self.now.bytes) at.0) at }
+    {
+        let index = self.index_of(at)?;
+        Ok(self.bytes.as_slice()[index])
     }
 }
 
@@ -44,7 +60,7 @@ impl Readable for Chip {
     ghost cells = { λ s. chip free s.base.0 s.bytes.items };
 
     fn read(&self, at: Address) -> Result<u8, StoreFault> {
-        self.read_only().read(at)
+        self.byte_at(at)
     }
 }
 
@@ -55,7 +71,7 @@ impl Store for Chip {
     }
 
     fn write(&mut self, at: Address, byte: u8) -> Result<(), StoreFault> {
-        let index = self.read_only().index_of(at)?;
+        let index = self.index_of(at)?;
         self.bytes[index] = byte;
         Ok(())
     }

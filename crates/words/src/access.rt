@@ -56,6 +56,7 @@ pub fn write_word<S: Store>(store: &mut S, at: Address, word: Number) -> Result<
 
 // Writes a word and reads it back: the answer is the word that was written, or the refusal of the
 // writing.
+#[tactic(auto, using(crate::proofs::Verifying::verifies))]
 pub fn write_word_verified<S: Store>(
     store: &mut S,
     at: Address,
