@@ -85,6 +85,10 @@ row_in r = record { code = r.code; name = r.name.now; group = r.group }
 abbrev pub operation_in : declared.Row → Operation
 operation_in r = r.operation
 
+-- the byte in a row of the code
+abbrev pub code_in : declared.Row → ℕ
+code_in r = r.code
+
 -- the operation of this byte
 abbrev pub operation_of : ℕ → Option Operation
 operation_of c = find (λ o. code o == c) operations

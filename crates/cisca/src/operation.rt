@@ -1,8 +1,8 @@
 // The operations, with their bytes, mnemonics and operand groups.
-ghost use Rattle.std.specs.Prelude.{◌≡◌, ◌==◌, ◌<◌, length, map, slice_index_or, Some};
+ghost use Rattle.std.specs.Prelude.{◌≡◌, ◌==◌, ◌<◌, length, map, option_map, slice_index_or, Some};
 ghost use Rattle.std.specs.Fmt.{padded};
 ghost use Rattle.std.specs.List.{find};
-ghost use Rattle.cisca.specs.Table.{OperationOf, all_rows, code, filled, group, letters, name, operation_in, operations, row_in, row_of};
+ghost use Rattle.cisca.specs.Table.{OperationOf, all_rows, code, code_in, filled, group, letters, name, operation_in, operations, row_in, row_of};
 ghost use Rattle.cisca.specs.declared.operation.Operation.TheVariants.{Nop};
 
 use operands::group::Group;
@@ -294,6 +294,7 @@ impl Operation {
     }
 
     // The operation's byte.
+    // A method and not From: it is one of the row's three facts, and is read as the others are.
     pub fn code(self) -> u8
         ensures { result ≡ code self }
     {
@@ -316,13 +317,13 @@ impl Operation {
     }
 }
 
-// The first operation of these rows that has this byte.
+// The operation of the first of these rows with this byte.
 fn first_with(rows: &[Row], byte: u8) -> Option<Operation>
-    ensures { result ≡ find (λ o. code o == byte) (map operation_in rows.now) }
+    ensures { result ≡ option_map operation_in (find (λ r. code_in r == byte) rows.now) }
 {
     rows.iter()
+        .find(|row| row.code == byte)
         .map(|row| row.operation)
-        .find(|operation| operation.code() == byte)
 }
 
 impl TryFrom<u8> for Operation {

@@ -39,6 +39,7 @@ impl TryFrom<u8> for Mode {
 
 impl Mode {
     // The high four bits of a mode byte.
+    // A method and not From: u8::from(mode) would not say that it is half of a byte.
     pub fn number(self) -> u8
         ensures { result ≡ mode_number self }
     {

@@ -11,7 +11,7 @@ ghost use Rattle.quantity.specs.Text.{hexadecimal, with_sign};
 use std::fmt;
 
 // A place in memory, from 0 to 2^32 - 1.
-#[derive(Clone, Copy, PartialEq, Eq, Debug)]
+#[derive(Clone, Copy, PartialEq, Eq, PartialOrd, Ord, Debug)]
 pub struct Address(pub u32);
 
 // The number of an input or output port.

@@ -9,6 +9,7 @@ use crate::operation::Operation;
 use operands::operand::Operand;
 
 // Why a record is not made.
+// An enum although of one refusal: a match names it, and a struct with no field would say no more.
 #[derive(Clone, Copy, PartialEq, Eq, Debug)]
 pub enum MakingFault {
     // The operation does not take these operands.
