@@ -1,6 +1,8 @@
 // Why a reading or a writing is turned away.
-ghost use Rattle.std.specs.Prelude.{◌≡◌};
-ghost use Rattle.codec.specs.Faults.{fault, number_of, write_number};
+ghost use Rattle.std.specs.Prelude.{◌≡◌, Some};
+ghost use Rattle.codec.specs.Faults.{fault, meaning, number_of, write_number};
+
+use std::fmt;
 
 // A place in the input: how many bytes stand before it.
 #[derive(Clone, Copy, PartialEq, Eq, Debug)]
@@ -8,19 +10,33 @@ pub struct Place {
     pub offset: usize,
 }
 
-// What is wrong with a byte of the input.
+// What is wrong with a byte of the input, by the number of the refusal.
 #[derive(Clone, Copy, PartialEq, Eq, Debug)]
 pub enum ReadCause {
     // The input ends before it.
-    Missing,
+    Missing = 1,
     // No operation has this byte.
-    UnknownOperation,
+    UnknownOperation = 2,
     // The high four bits are no mode: 7 to 15.
-    UnknownMode,
+    UnknownMode = 3,
     // No legal pairing begins so.
-    Pairing,
+    Pairing = 4,
     // The low four bits are not 0 in a mode that names no register.
-    Digit,
+    Digit = 5,
+}
+
+impl fmt::Display for ReadCause {
+    ghost output = { λ cause. Some (meaning cause) };
+
+    fn fmt<W: fmt::Write>(&self, f: &mut fmt::Formatter<W>) -> fmt::Result {
+        f.write_str(match self {
+            ReadCause::Missing => "the next byte is missing",
+            ReadCause::UnknownOperation => "no operation has this byte",
+            ReadCause::UnknownMode => "no operand has this mode",
+            ReadCause::Pairing => "no legal pairing begins so",
+            ReadCause::Digit => "the digit is not 0",
+        })
+    }
 }
 
 impl ReadCause {
@@ -44,21 +60,15 @@ impl ReadFault {
     pub fn number(self) -> u8
         ensures { result ≡ number_of self.cause }
     {
-        match self.cause {
-            ReadCause::Missing => 1,
-            ReadCause::UnknownOperation => 2,
-            ReadCause::UnknownMode => 3,
-            ReadCause::Pairing => 4,
-            ReadCause::Digit => 5,
-        }
+        self.cause as u8
     }
 }
 
-// A refused writing.
+// A refused writing, by the number of the refusal.
 #[derive(Clone, Copy, PartialEq, Eq, Debug)]
 pub enum WriteFault {
     // The buffer is too short.
-    Short,
+    Short = 6,
 }
 
 impl WriteFault {
@@ -66,8 +76,6 @@ impl WriteFault {
     pub fn number(self) -> u8
         ensures { result ≡ write_number self }
     {
-        match self {
-            WriteFault::Short => 6,
-        }
+        self as u8
     }
 }

@@ -37,13 +37,7 @@ impl<'a> Source for ByteString<'a> {
     ghost ends = { λ s. listed_ends s.0.now };
 
     fn byte_at(&self, place: usize) -> Option<u8> {
-        let bytes = self.0;
-        if place < bytes.len() {
-            let byte = bytes[place];
-            Some(byte)
-        } else {
-            None
-        }
+        self.0.get(place).copied()
     }
 }
 
@@ -66,14 +60,10 @@ impl<'a, M: Readable> Source for Span<'a, M> {
     ghost ends = { λ s. span_ends (M.Readable.cells s.memory.now) s.first s.length };
 
     fn byte_at(&self, place: usize) -> Option<u8> {
-        if place < self.length {
-            let at = self.first.later((place % 0x1_0000_0000) as u32);
-            match self.memory.read(at) {
-                Ok(byte) => Some(byte),
-                Err(_) => None,
-            }
-        } else {
-            None
+        if place >= self.length {
+            return None;
         }
+        let at = self.first.later((place % 0x1_0000_0000) as u32);
+        self.memory.read(at).ok()
     }
 }
