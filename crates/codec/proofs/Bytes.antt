@@ -1,9 +1,8 @@
--- Bytes that are read one by one, and the numbers that they make. Assumes nothing.
-use Rattle.std.proofs.Common.{◌≡◌, ℕ, suc, ◌+◌, ◌-◌, ◌*◌, ◌<◌, ◌≤◌, List, [], ◌∷◌, ◌++◌, length, take, set, Ok, Err, sym, refl, ap, ◌∙◌, append_assoc, append-nil, arith, length-set, Bor}
-use Rattle.std.specs.Int.{from_le_bytes, w16, w32}
+-- Bytes that are read one by one. Assumes nothing.
+use Rattle.std.proofs.Common.{◌≡◌, ℕ, suc, ◌+◌, ◌-◌, ◌<◌, ◌≤◌, List, [], ◌∷◌, ◌++◌, length, take, set, Ok, Err, sym, refl, ap, ◌∙◌, append_assoc, append-nil, arith, length-set, Bor}
 use Rattle.std.proofs.lemmas.List.{take_all, take_more_set}
 use Rattle.codec.specs.Cursors.{Reads}
-use Rattle.codec.specs.Decoding.{Read, after, byte_at, bytes_at, four_at, two_at}
+use Rattle.codec.specs.Decoding.{Read, after, byte_at, bytes_at}
 use Rattle.codec.specs.Sources.{Bytes}
 use Rattle.codec.specs.declared.decode.Cursor.{Cursor}
 
@@ -56,49 +55,3 @@ reading_all shows old new n bytes k r done =
           sym (r.left ∙ ap (λ (m : ℕ). onto (take k bytes) (bytes_at m s new.place.offset)) none
           ∙ ap (λ (l : List ℕ). Ok (l, new.place.offset)) (append-nil (take k bytes) ∙ take_all k bytes (omega arith)));
     }
-
--- Numbers of two and of four bytes.
-
-pub two_is : (s : Bytes) (p : ℕ) → two_at s p ≡ after (bytes_at 2 s p) λ bs q. Ok (from_le_bytes w16 bs, q)
-two_is s p = first (byte_at s p)
-  where
-    second : (a : ℕ) (r : Read ℕ) → after r (λ b t. Ok (a + b * 256, t)) ≡ after (after (after r (λ b t. Ok (b ∷ [], t))) λ bs t. Ok (a ∷ bs, t)) λ bs q. Ok (from_le_bytes w16 bs, q)
-    second a (Ok x) = refl
-    second a (Err f) = refl
-
-    first : (r : Read ℕ) → after r (λ a q. after (byte_at s q) λ b t. Ok (a + b * 256, t)) ≡ after (after r λ a q. after (bytes_at 1 s q) λ bs t. Ok (a ∷ bs, t)) λ bs q. Ok (from_le_bytes w16 bs, q)
-    first (Ok x) = second x.0 (byte_at s x.1)
-    first (Err f) = refl
-
-pub four_is : (s : Bytes) (p : ℕ) → four_at s p ≡ after (bytes_at 4 s p) λ bs q. Ok (from_le_bytes w32 bs, q)
-four_is s p = first (byte_at s p)
-  where
-    high : ℕ → ℕ → Read ℕ
-    high a q = after (two_at s q) λ b t. Ok (a + b * 65536, t)
-
-    fourth : (a b c : ℕ) (r : Read ℕ) → after (after r λ d t. Ok (c + d * 256, t)) (λ h t. Ok (a + b * 256 + h * 65536, t)) ≡ after (after (after (after (after r (λ d t. Ok (d ∷ [], t))) λ bs t. Ok (c ∷ bs, t)) λ bs t. Ok (b ∷ bs, t)) λ bs t. Ok (a ∷ bs, t)) λ bs q. Ok (from_le_bytes w32 bs, q)
-    fourth a b c (Ok x) = ap (λ (n : ℕ). Ok (n, x.1)) (omega arith)
-    fourth a b c (Err f) = refl
-
-    third : (a b : ℕ) (r : Read ℕ) → after (after r λ c q. after (byte_at s q) λ d t. Ok (c + d * 256, t)) (λ h t. Ok (a + b * 256 + h * 65536, t)) ≡ after (after (after (after r λ c q. after (bytes_at 1 s q) λ bs t. Ok (c ∷ bs, t)) λ bs t. Ok (b ∷ bs, t)) λ bs t. Ok (a ∷ bs, t)) λ bs q. Ok (from_le_bytes w32 bs, q)
-    third a b (Ok x) = fourth a b x.0 (byte_at s x.1)
-    third a b (Err f) = refl
-
-    second : (a : ℕ) (r : Read ℕ) → after (after r λ b t. Ok (a + b * 256, t)) high ≡ after (after (after r λ b q. after (bytes_at 2 s q) λ bs t. Ok (b ∷ bs, t)) λ bs t. Ok (a ∷ bs, t)) λ bs q. Ok (from_le_bytes w32 bs, q)
-    second a (Ok x) = third a x.0 (byte_at s x.1)
-    second a (Err f) = refl
-
-    first : (r : Read ℕ) → after (after r λ a q. after (byte_at s q) λ b t. Ok (a + b * 256, t)) high ≡ after (after r λ a q. after (bytes_at 3 s q) λ bs t. Ok (a ∷ bs, t)) λ bs q. Ok (from_le_bytes w32 bs, q)
-    first (Ok x) = second x.0 (byte_at s x.1)
-    first (Err f) = refl
-
--- a number that is made of bytes is read where they are
-pub read_number :
-    {S : Type 0} (shows : S → Bytes) (n : ℕ) (f : List ℕ → ℕ) (R : Bytes → ℕ → Read ℕ) → ((s : Bytes) (p : ℕ) → R s p ≡ after (bytes_at n s p) λ bs q. Ok (f bs, q))
-    → (old new : Cursor S) (bs : List ℕ) (x : ℕ) → Reads shows (bytes_at n) old new (Ok bs) → x ≡ f bs → Reads shows R old new (Ok x)
-read_number shows n f R is old new bs x h e = record {
-  same = h.same;
-  reads =
-      ap (λ (x : ℕ). Ok (x, new.place.offset)) e ∙ ap (λ (r : Read (List ℕ)). after r λ bs q. Ok (f bs, q)) h.reads
-      ∙ sym (is (shows old.source.now) old.place.offset);
-}

@@ -1,5 +1,5 @@
 -- What a cursor reads, one thing behind another. Assumes nothing.
-use Rattle.std.proofs.Common.{◌≡◌, ℕ, Some, Ok, Err, Option, Result, refl, ap, ◌∙◌, subst, arith}
+use Rattle.std.proofs.Common.{◌≡◌, Some, Ok, Err, Option, Result, refl, ap, ◌∙◌, subst}
 use Rattle.std.specs.Prelude.{IsOk}
 use Rattle.cisca.specs.Making.{Parts, assembled, made, making, parts}
 use Rattle.cisca.specs.Table.{group}
@@ -41,7 +41,7 @@ module _
 
     made_ok : (r : Result Instruction MakingFault) → made r ≡ Ok (assembled o a b) → IsOk r
     made_ok (Ok i) e = refl
-    made_ok (Err f) e = let z : ◌≡◌ {A = ℕ} 0 1 = cc in absurd (omega arith)
+    made_ok (Err f) e = cc
 
     module _ (r : Result Instruction MakingFault) (m : made r ≡ making o a b) where
       made_is : made r ≡ Ok (assembled o a b)

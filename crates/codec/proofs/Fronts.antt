@@ -1,6 +1,5 @@
 -- Bytes at the front of a byte string. Assumes nothing.
-use Rattle.std.proofs.Common.{◌≡◌, ℕ, ◌+◌, ◌/◌, ◌%◌, ◌<◌, List, [], ◌∷◌, ◌++◌, length, get_or, Some, None, Ok, Option, refl, ap, ◌∙◌, subst, append_assoc, mod-eq_of_lt, arith, ltb→lt, length-append, w16, of_z}
-use Rattle.std.proofs.lemmas.Nat.{mod_below}
+use Rattle.std.proofs.Common.{◌≡◌, ℕ, ◌+◌, ◌%◌, ◌<◌, List, [], ◌∷◌, ◌++◌, length, get_or, Some, None, Ok, Option, refl, ap, ◌∙◌, subst, append_assoc, mod-eq_of_lt, arith, ltb→lt, length-append, w16, of_z}
 use Rattle.std.proofs.lemmas.List.{get_or_at, length_push}
 use Rattle.std.proofs.lemmas.Bool.{cond-true, lt-ltb}
 use Rattle.cisca.proofs.Codes.{code_small}
@@ -9,15 +8,12 @@ use Rattle.cisca.specs.declared.instruction.Instruction.{Instruction}
 use Rattle.operands.specs.declared.operand.Operand.{Operand}
 use Rattle.operands.specs.declared.operand.Operand.TheVariants.{Direct, Immediate, Indexed, Indirect, PcRelative, Register, Relative}
 use Rattle.operands.specs.declared.register.Register as reg
-use Rattle.codec.specs.Encoding.{bytes, bytes_if, four_bytes, operand_bytes, two_bytes}
+use Rattle.codec.specs.Encoding.{bytes, bytes_if, operand_bytes}
 use Rattle.codec.specs.Laws.{Lies, ReadFromFront}
 use Rattle.codec.specs.Sources.{listed}
 use Rattle.codec.proofs.Laws.{reads_back}
-
--- all are below 256
-abbrev pub AllSmall : List ℕ → Type 0
-AllSmall [] = Unit {0}
-AllSmall (b ∷ bs) = (b < 256) × AllSmall bs
+pub use Rattle.codec.proofs.Numbers.{AllSmall}
+use Rattle.codec.proofs.Numbers.{four_small, two_small}
 
 pub small_append : (xs ys : List ℕ) → AllSmall xs → AllSmall ys → AllSmall (xs ++ ys)
 small_append [] ys h k = k
@@ -34,15 +30,6 @@ lies_listed pre (b ∷ bs) t p e h =
       cond-true _ _ _ (lt-ltb p (length l) within) ∙ ap Some value,
       subst (λ (l : List ℕ). Lies (listed l) (p + 1) bs) move (lies_listed (pre ++ b ∷ []) bs t (p + 1) (length_push pre b ∙ ap (λ (n : ℕ). n + 1) e) h.1),
     )
-
-low : (n : ℕ) → n % 256 < 256
-low n = mod_below n 256 (omega arith)
-
-two_small : (n : ℕ) → AllSmall (two_bytes n)
-two_small n = (low n, (low (n / 256), tt))
-
-four_small : (n : ℕ) → AllSmall (four_bytes n)
-four_small n = (low n, (low (n / 256), (low (n / 65536), (low (n / 16777216), tt))))
 
 index_low : (r : reg.Register) → r.index < 16
 index_low r = ltb→lt r.index 16 r.below

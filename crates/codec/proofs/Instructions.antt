@@ -1,5 +1,5 @@
 -- Instructions as an exact format: the operation byte, then the operands. Assumes nothing.
-use Rattle.std.proofs.Common.{◌≡◌, ℕ, Bool, true, false, cond, T, eqb, List, [], ◌∷◌, ◌++◌, Some, None, Ok, Option, sym, refl, ap, ◌∙◌, subst, append-nil, arith}
+use Rattle.std.proofs.Common.{◌≡◌, ℕ, true, false, T, eqb, List, [], ◌∷◌, ◌++◌, Some, None, Ok, Option, sym, refl, ap, ◌∙◌, subst, append-nil, arith}
 use Rattle.std.proofs.lemmas.Bool.{and_from, and_parts, cond-true, eqb-true}
 use Rattle.cisca.proofs.Codes.{code_finds, code_found}
 use Rattle.cisca.proofs.Same.{Legal}
@@ -30,7 +30,7 @@ operation_exact =
     judged judged_operation code (λ o. Unit {0})
     (λ o p l. ap (λ (x : Option Operation). known x (fault cause.UnknownOperation p) Ok) (code_finds o))
     (λ b p o w e. let k = known_ok (operation_of b) (fault cause.UnknownOperation p) Ok e in (tt, ap code (sym (un_ok k.2)) ∙ code_found b k.0 k.1))
-    (λ b p f e. known_blames (λ m. true) (operation_of b) cause.UnknownOperation p f Ok (λ z. let q : ◌≡◌ {A = ℕ} 0 1 = cc in omega arith) (λ o z. absurd (not_both (sym z))) e)
+    (λ b p f e. known_blames (λ m. true) (operation_of b) cause.UnknownOperation p f Ok (λ z. cc) (λ o z. absurd (not_both (sym z))) e)
     (op.Nop, tt)
 
 -- The operands of a group.
@@ -46,7 +46,7 @@ clash : {X : Type 0} (n k j : ℕ) → n ≡ k → eqb n j ≡ true → (k ≡ j
 clash n k j e f ne = absurd (ne (sym e ∙ eqb-true n j f))
 
 false_true : {X : Type 0} → false ≡ true → X
-false_true e = let z : ◌≡◌ {A = ℕ} 0 1 = ap (λ (b : Bool). cond b 1 0) e in absurd (omega arith)
+false_true e = cc
 
 none_same : (a b : Option Operand) → grouped Bare (mode_if a) (mode_if b) ≡ true → ◌≡◌ {A = Operands} (None, None) (a, b)
 none_same None None e = refl

@@ -43,10 +43,10 @@ module _ (s : Bytes) (before : List ℕ) (k : ℕ) where
   stops : (c : ReadCause) → ((c ≡ Missing) × (s k ≡ None)) ⊎ ((c ≡ Missing → ⊥) × Bar) → Stops s before c k
   stops Missing (inl h) = h.1
   stops Missing (inr h) = absurd (h.0 refl)
-  stops UnknownOperation h = other UnknownOperation (λ z. let q : ◌≡◌ {A = ℕ} 0 1 = cc in omega arith) h barred
-  stops UnknownMode h = other UnknownMode (λ z. let q : ◌≡◌ {A = ℕ} 0 1 = cc in omega arith) h barred
-  stops Pairing h = other Pairing (λ z. let q : ◌≡◌ {A = ℕ} 0 1 = cc in omega arith) h barred
-  stops Digit h = other Digit (λ z. let q : ◌≡◌ {A = ℕ} 0 1 = cc in omega arith) h barred
+  stops UnknownOperation h = other UnknownOperation (λ z. cc) h barred
+  stops UnknownMode h = other UnknownMode (λ z. cc) h barred
+  stops Pairing h = other Pairing (λ z. cc) h barred
+  stops Digit h = other Digit (λ z. cc) h barred
 
 -- a refusal comes at the first byte that is at fault
 pub first_fault : (s : Bytes) (p : ℕ) (f : ReadFault) → Small s → decode s p ≡ Err f → FirstFault s p f

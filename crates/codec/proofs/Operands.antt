@@ -92,9 +92,9 @@ module _ (fits : Mode → Bool) where
 
   mode_blames : (b p : ℕ) (f : ReadFault) → judged_mode fits b p ≡ Err f → Blames p f
   mode_blames b p f e =
-      known_blames (mode_of (b / 16)) cause.UnknownMode p f _ (λ z. let q : ◌≡◌ {A = ℕ} 0 1 = cc in omega arith)
-      (λ m. provided_blames (fits m) cause.Pairing p f _ (λ z. let q : ◌≡◌ {A = ℕ} 0 1 = cc in omega arith)
-      (provided_blames (clean m (b % 16)) cause.Digit p f _ (λ z. let q : ◌≡◌ {A = ℕ} 0 1 = cc in omega arith) (λ z. absurd (not_both (sym z))))) e
+      known_blames (mode_of (b / 16)) cause.UnknownMode p f _ (λ z. cc)
+      (λ m. provided_blames (fits m) cause.Pairing p f _ (λ z. cc)
+      (provided_blames (clean m (b % 16)) cause.Digit p f _ (λ z. cc) (λ z. absurd (not_both (sym z))))) e
 
   mode_exact : (t : ModeByte) × Stands t → Exact (judged_at (judged_mode fits)) (λ t. mark t ∷ []) Stands
   mode_exact some = judged (judged_mode fits) mark Stands mode_means mode_meant mode_blames some

@@ -1,7 +1,7 @@
 -- Reading an instruction from left to right, up to the first fault. Assumes nothing.
-use Rattle.std.specs.Prelude.{ℕ, zero, suc, ◌+◌, ◌*◌, ◌/◌, ◌%◌, Bool, true, false, cond, List, [], ◌∷◌, Some, None, Ok, Err, Option, Result, ◌==◌}
+use Rattle.std.specs.Prelude.{ℕ, zero, suc, ◌+◌, ◌/◌, ◌%◌, Bool, true, false, cond, List, [], ◌∷◌, Some, None, Ok, Err, Option, Result, ◌==◌}
 use Rattle.std.proofs.Common.{arith, lt→ltb, to_z}
-use Rattle.std.specs.Int.{w16}
+use Rattle.std.specs.Int.{from_le_bytes, w16, w32}
 use Rattle.std.proofs.lemmas.Nat.{mod_below}
 use Rattle.cisca.specs.Making.{Parts, assembled, parts}
 use Rattle.operands.specs.Modes.{mode, mode_of, unregistered}
@@ -56,16 +56,16 @@ abbrev pub bytes_at : ℕ → Bytes → ℕ → Read (List ℕ)
 bytes_at zero s p = Ok ([], p)
 bytes_at (suc n) s p = after (byte_at s p) λ b q. after (bytes_at n s q) λ bs t. Ok (b ∷ bs, t)
 
+-- numbers of two and four bytes, lowest first
+abbrev pub two_at : Bytes → ℕ → Read ℕ
+two_at s p = after (bytes_at 2 s p) λ bs q. Ok (from_le_bytes w16 bs, q)
+
+abbrev pub four_at : Bytes → ℕ → Read ℕ
+four_at s p = after (bytes_at 4 s p) λ bs q. Ok (from_le_bytes w32 bs, q)
+
 -- a byte by what it means; `judge` is told the byte and its place
 abbrev pub judged_at : {X : Type 0} → (ℕ → ℕ → Result X ReadFault) → Bytes → ℕ → Read X
 judged_at judge s p = after (byte_at s p) λ b q. taken (judge b p) q
-
--- numbers of two and four bytes, lowest first
-abbrev pub two_at : Bytes → ℕ → Read ℕ
-two_at s p = after (byte_at s p) λ a q. after (byte_at s q) λ b t. Ok (a + b * 256, t)
-
-abbrev pub four_at : Bytes → ℕ → Read ℕ
-four_at s p = after (two_at s p) λ a q. after (two_at s q) λ b t. Ok (a + b * 65536, t)
 
 -- the operation of a byte
 abbrev pub judged_operation : ℕ → ℕ → Result Operation ReadFault

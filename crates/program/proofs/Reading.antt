@@ -1,5 +1,5 @@
 -- The reading of a whole program, record by record. Assumes nothing.
-use Rattle.std.proofs.Common.{◌≡◌, ℕ, zero, suc, ◌+◌, ◌-◌, ◌<◌, ◌≤◌, Bool, true, false, cond, ltb, List, [], ◌∷◌, ◌++◌, length, is_some, Some, None, Ok, Err, Option, sym, refl, ap, ◌∙◌, inl, inr, append_assoc, append-nil, arith}
+use Rattle.std.proofs.Common.{◌≡◌, ℕ, zero, suc, ◌+◌, ◌-◌, ◌<◌, ◌≤◌, Bool, true, false, ltb, List, [], ◌∷◌, ◌++◌, length, is_some, Some, None, Ok, Err, Option, sym, refl, ap, ◌∙◌, inl, inr, append_assoc, append-nil, arith}
 use Rattle.std.proofs.lemmas.List.{length_push}
 use Rattle.std.proofs.lemmas.Bool.{cases_Bool, ltb-false, ltb-true}
 use Rattle.cisca.specs.Making.{Parts}
@@ -28,7 +28,7 @@ read_on n s p b e = ap (λ (o : Option ℕ). unless_ended o (behind (decode s p)
 pub before_end : (s : Bytes) (n p b : ℕ) → EndsBy s n → s p ≡ Some b → p < n
 before_end s n p b w e = elim (cases_Bool (ltb p n)) [
   | inl t ↦ ltb-true p n t
-  | inr t ↦ let z : ◌≡◌ {A = ℕ} 0 1 = cc (w p (ltb-false p n t)) in absurd (omega arith)
+  | inr t ↦ cc (w p (ltb-false p n t))
 ]
 
 -- a reading moves on
@@ -67,12 +67,12 @@ pub counting_all : (s : Bytes) (end p n : ℕ) (c : Counting s end p n) → s p 
 counting_all s end p n c e = c.so_far ∙ ap (onto c.done) (read_end (end - n) s p e) ∙ ap Ok (append-nil c.done)
 
 some_there : (o : Option ℕ) → is_some o ≡ true → (b : ℕ) × (o ≡ Some b)
-some_there None e = let z : ◌≡◌ {A = ℕ} 0 1 = ap (λ (b : Bool). cond b 1 0) e in absurd (omega arith)
+some_there None e = cc
 some_there (Some b) e = (b, refl)
 
 none_there : (o : Option ℕ) → is_some o ≡ false → o ≡ None
 none_there None e = refl
-none_there (Some b) e = let z : ◌≡◌ {A = ℕ} 0 1 = ap (λ (b : Bool). cond b 0 1) e in absurd (omega arith)
+none_there (Some b) e = cc
 
 -- what a test for a byte says
 pub byte_there : (s : Bytes) (p : ℕ) (o : Option ℕ) (t : Bool) → o ≡ s p → t ≡ is_some o → t ≡ true → (b : ℕ) × (s p ≡ Some b)

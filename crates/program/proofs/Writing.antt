@@ -29,7 +29,7 @@ module _ (is : List Instruction) (room k left n : ℕ) (i : Instruction) (m : Me
       ∙ ap (λ (x : ℕ). x + size (drop (k + 1) is)) (sym f)
 
   pub measuring_more : (o : Option ℕ) (x : ℕ) → SomeIff o (n ≤ left) (left - n) → o ≡ Some x → Measuring is room (k + 1) x
-  measuring_more None x t g = let z : ◌≡◌ {A = ℕ} 0 1 = cc in absurd (omega arith)
+  measuring_more None x t g = cc
   measuring_more (Some y) x t g =
       let same : y ≡ x = cc in
       let value = t.1 in
@@ -39,7 +39,7 @@ module _ (is : List Instruction) (room k left n : ℕ) (i : Instruction) (m : Me
   measuring_short None t g =
       let more : left < n = omega (arith, t) in
       sym (cond-true _ _ _ (lt-ltb room (size is) (let a = m.sum in let b = split in let w = m.within in omega arith)))
-  measuring_short (Some y) t g = let z : ◌≡◌ {A = ℕ} 0 1 = cc in absurd (omega arith)
+  measuring_short (Some y) t g = cc
 
 pub measuring_all : (is : List Instruction) (room k left : ℕ) → Measuring is room k left → length is ≤ k → Ok (room - left) ≡ written (program_bytes is) room
 measuring_all is room k left m h =
@@ -58,7 +58,7 @@ pub record Laying (is : List Instruction) (old new : List ℕ) (k at : ℕ) : Ty
 -- bytes that were written had room
 written_ok : (bs : List ℕ) (room n : ℕ) → Ok n ≡ written bs room → (n ≡ length bs) × (length bs ≤ room)
 written_ok bs room n e = elim (cases_Bool (ltb room (length bs))) [
-  | inl t ↦ let z : ◌≡◌ {A = ℕ} 0 1 = cc (e ∙ cond-true _ _ _ t) in absurd (omega arith)
+  | inl t ↦ cc (e ∙ cond-true _ _ _ t)
   | inr t ↦ let k : n ≡ length bs = cc (e ∙ cond-false _ _ _ t) in (k, ltb-false room (length bs) t)
 ]
 
@@ -66,7 +66,7 @@ written_ok bs room n e = elim (cases_Bool (ltb room (length bs))) [
 written_err : (bs : List ℕ) (room : ℕ) (f : WriteFault) → Err f ≡ written bs room → room < length bs
 written_err bs room f e = elim (cases_Bool (ltb room (length bs))) [
   | inl t ↦ ltb-true room (length bs) t
-  | inr t ↦ let z : ◌≡◌ {A = ℕ} 0 1 = cc (e ∙ cond-false _ _ _ t) in absurd (omega arith)
+  | inr t ↦ cc (e ∙ cond-false _ _ _ t)
 ]
 
 overlaid_fits : (bs old : List ℕ) → length bs ≤ length old → overlaid bs old ≡ bs ++ drop (length bs) old
