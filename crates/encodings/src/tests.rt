@@ -17,18 +17,14 @@ use std::test::Fail;
 // These bytes read as this instruction, and it is written as these bytes.
 fn agrees(rt: &impl Abort, bytes: &[u8], expected: Instruction) -> Result<(), Fail> {
     let mut reader = Reader::new(ByteString(bytes));
-    let Ok(found) = reader.next() else {
-        return Err(Fail::new("refused"));
-    };
-    assert!(rt; found == expected);
-    assert!(rt; reader.place().offset == bytes.len());
+    let found = reader.next()?;
+    assert_eq!(rt; found, expected);
+    assert_eq!(rt; reader.place().offset, bytes.len());
     let mut out = [0xEEu8; 12];
-    let Ok(size) = write(&expected, &mut out) else {
-        return Err(Fail::new("no room"));
-    };
-    assert!(rt; size == bytes.len());
+    let size = write(&expected, &mut out)?;
+    assert_eq!(rt; size, bytes.len());
     assert!(rt; out.starts_with(bytes));
-    assert!(rt; out[11] == 0xEE);
+    assert_eq!(rt; out[11], 0xEE);
     Ok(())
 }
 
@@ -98,12 +94,14 @@ fn refuses<S: Source + Drop>(
     let Err(ahead) = reader.peek() else {
         return Err(Fail::new("seen ahead"));
     };
-    assert!(rt; ahead.number() == number && ahead.place.offset == place);
+    assert_eq!(rt; ahead.number(), number);
+    assert_eq!(rt; ahead.place.offset, place);
     let Err(fault) = reader.next() else {
         return Err(Fail::new("taken"));
     };
-    assert!(rt; fault.number() == number && fault.place.offset == place);
-    assert!(rt; reader.place().offset == 0);
+    assert_eq!(rt; fault.number(), number);
+    assert_eq!(rt; fault.place.offset, place);
+    assert_eq!(rt; reader.place().offset, 0);
     Ok(())
 }
 
@@ -190,29 +188,25 @@ fn memory_ends_at_its_length_or_its_first_absent_byte(rt: HostRuntime) -> Result
 fn a_look_ahead_puts_the_place_back(rt: HostRuntime) -> Result<(), Fail> {
     let mut reader = Reader::new(ByteString(&[0x24, 0x13, 0x00]));
     assert!(rt; reader.next().is_ok());
-    let Ok(ahead) = reader.peek() else {
-        return Err(Fail::new("refused ahead"));
-    };
-    let Ok(found) = reader.next() else {
-        return Err(Fail::new("refused"));
-    };
-    assert!(rt; ahead == found);
-    assert!(rt; ahead == Instruction::new(Operation::Nop, None, None)?);
+    let ahead = reader.peek()?;
+    let found = reader.next()?;
+    assert_eq!(rt; ahead, found);
+    assert_eq!(rt; ahead, Instruction::new(Operation::Nop, None, None)?);
     Ok(())
 }
 
 #[test]
 fn records_are_legal(rt: HostRuntime) -> Result<(), Fail> {
     let register = Operand::Register(Register::new(0x13));
-    assert!(rt;
-        single(Operation::Inc, register)?
-            == single(Operation::Inc, Operand::Register(Register::new(3)))?
+    assert_eq!(rt;
+        single(Operation::Inc, register)?,
+        single(Operation::Inc, Operand::Register(Register::new(3)))?
     );
     let slot = Operand::Indirect(Register::new(1));
     let Err(fault) = Instruction::new(Operation::Mov, Some(slot), Some(slot)) else {
         return Err(Fail::new("memory to memory"));
     };
-    assert!(rt; fault.number() == 4);
+    assert_eq!(rt; fault.number(), 4);
     assert!(rt; Instruction::new(Operation::Nop, Some(register), None).is_err());
     assert!(rt; Instruction::new(Operation::Push, None, None).is_err());
     assert!(rt; Instruction::new(Operation::Push, None, Some(register)).is_err());
@@ -225,18 +219,16 @@ fn programs_go_there_and_back(rt: HostRuntime) -> Result<(), Fail> {
     let bytes = [0x24, 0x13, 0x00, 0x11, 0x13];
     let nop = Instruction::new(Operation::Nop, None, None)?;
     let mut records = [nop; 4];
-    let Ok(count) = read_program(&ByteString(&bytes), &mut records) else {
-        return Err(Fail::new("refused"));
-    };
-    assert!(rt; count == 3);
-    assert!(rt; records[0] == single(Operation::Inc, Operand::Register(Register::new(3)))?);
-    assert!(rt; records[2] == single(Operation::Push, Operand::Register(Register::new(3)))?);
-    assert!(rt; records[3] == nop);
+    let count = read_program(&ByteString(&bytes), &mut records)?;
+    assert_eq!(rt; count, 3);
+    let third = Operand::Register(Register::new(3));
+    assert_eq!(rt; records[0], single(Operation::Inc, third)?);
+    assert_eq!(rt; records[2], single(Operation::Push, third)?);
+    assert_eq!(rt; records[3], nop);
     let mut out = [0xEEu8; 8];
-    let Ok(size) = write_program(&records, &mut out) else {
-        return Err(Fail::new("no room"));
-    };
-    assert!(rt; size == 6 && out == [0x24, 0x13, 0x00, 0x11, 0x13, 0x00, 0xEE, 0xEE]);
+    let size = write_program(&records, &mut out)?;
+    assert_eq!(rt; size, 6);
+    assert_eq!(rt; out, [0x24, 0x13, 0x00, 0x11, 0x13, 0x00, 0xEE, 0xEE]);
     Ok(())
 }
 
@@ -247,19 +239,21 @@ fn short_lists_and_buffers_are_left_alone(rt: HostRuntime) -> Result<(), Fail> {
     let Err(fault) = read_program(&ByteString(&[0x48, 0x48, 0x48]), &mut records) else {
         return Err(Fail::new("taken"));
     };
-    assert!(rt; fault.number() == 6 && fault.place().is_none());
-    assert!(rt; records[0] == nop && records[1] == nop);
+    assert_eq!(rt; fault.number(), 6);
+    assert_eq!(rt; fault.place(), None);
+    assert_eq!(rt; records, [nop; 2]);
     // A fault of the input comes before a list that is too short.
     let Err(fault) = read_program(&ByteString(&[0x48, 0x48, 0x48, 0x03]), &mut records) else {
         return Err(Fail::new("taken"));
     };
-    assert!(rt; fault.number() == 2);
-    assert!(rt; records[0] == nop);
+    assert_eq!(rt; fault.number(), 2);
+    assert_eq!(rt; records[0], nop);
     let mut out = [0xEEu8; 2];
     let Err(fault) = write_program(&[nop, nop, nop], &mut out) else {
         return Err(Fail::new("written"));
     };
-    assert!(rt; fault.number() == 6 && out == [0xEE, 0xEE]);
+    assert_eq!(rt; fault.number(), 6);
+    assert_eq!(rt; out, [0xEE, 0xEE]);
     assert!(rt; read_program(&ByteString(&[]), &mut records).is_ok());
     Ok(())
 }
