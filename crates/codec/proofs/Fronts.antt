@@ -1,5 +1,5 @@
 -- Bytes at the front of a byte string. Assumes nothing.
-use Rattle.std.proofs.Common.{◌≡◌, ℕ, ◌+◌, ◌%◌, ◌<◌, List, [], ◌∷◌, ◌++◌, length, get_or, Some, None, Ok, Option, refl, ap, ◌∙◌, subst, append_assoc, mod-eq_of_lt, arith, ltb→lt, length-append, w16, of_z}
+use Rattle.std.proofs.Common.{◌≡◌, ℕ, ◌+◌, ◌%◌, ◌<◌, List, [], ◌∷◌, ◌++◌, length, get_or, Some, None, Ok, Option, refl, ap, ◌∙◌, subst, append_assoc, mod-eq_of_lt, arith, length-append, w16, of_z}
 use Rattle.std.proofs.lemmas.List.{get_or_at, length_push}
 use Rattle.std.proofs.lemmas.Bool.{cond-true, lt-ltb}
 use Rattle.cisca.proofs.Codes.{code_small}
@@ -7,11 +7,11 @@ use Rattle.cisca.specs.Making.{parts}
 use Rattle.cisca.specs.declared.instruction.Instruction.{Instruction}
 use Rattle.operands.specs.declared.operand.Operand.{Operand}
 use Rattle.operands.specs.declared.operand.Operand.TheVariants.{Direct, Immediate, Indexed, Indirect, PcRelative, Register, Relative}
-use Rattle.operands.specs.declared.register.Register as reg
 use Rattle.codec.specs.Encoding.{bytes, bytes_if, operand_bytes}
 use Rattle.codec.specs.Laws.{Lies, ReadFromFront}
 use Rattle.codec.specs.Sources.{listed}
 use Rattle.codec.proofs.Laws.{reads_back}
+use Rattle.codec.proofs.Operands.{index_low}
 pub use Rattle.codec.proofs.Numbers.{AllSmall}
 use Rattle.codec.proofs.Numbers.{four_small, two_small}
 
@@ -30,9 +30,6 @@ lies_listed pre (b ∷ bs) t p e h =
       cond-true _ _ _ (lt-ltb p (length l) within) ∙ ap Some value,
       subst (λ (l : List ℕ). Lies (listed l) (p + 1) bs) move (lies_listed (pre ++ b ∷ []) bs t (p + 1) (length_push pre b ∙ ap (λ (n : ℕ). n + 1) e) h.1),
     )
-
-index_low : (r : reg.Register) → r.index < 16
-index_low r = ltb→lt r.index 16 r.below
 
 operand_small : (a : Operand) → AllSmall (operand_bytes a)
 operand_small (Immediate n) = (omega arith, four_small n.0)

@@ -1,5 +1,5 @@
 -- Instructions as an exact format: the operation byte, then the operands. Assumes nothing.
-use Rattle.std.proofs.Common.{◌≡◌, ℕ, true, false, T, eqb, List, [], ◌∷◌, ◌++◌, Some, None, Ok, Option, sym, refl, ap, ◌∙◌, subst, append-nil, arith}
+use Rattle.std.proofs.Common.{◌≡◌, ℕ, true, T, eqb, List, [], ◌∷◌, ◌++◌, Some, None, Ok, Option, sym, refl, ap, ◌∙◌, subst, append-nil, arith}
 use Rattle.std.proofs.lemmas.Bool.{and_from, and_parts, cond-true, eqb-true}
 use Rattle.cisca.proofs.Codes.{code_finds, code_found}
 use Rattle.cisca.proofs.Same.{Legal}
@@ -45,14 +45,11 @@ operands_bytes os = bytes_if os.0 ++ bytes_if os.1
 clash : {X : Type 0} (n k j : ℕ) → n ≡ k → eqb n j ≡ true → (k ≡ j → ⊥) → X
 clash n k j e f ne = absurd (ne (sym e ∙ eqb-true n j f))
 
-false_true : {X : Type 0} → false ≡ true → X
-false_true e = cc
-
 none_same : (a b : Option Operand) → grouped Bare (mode_if a) (mode_if b) ≡ true → ◌≡◌ {A = Operands} (None, None) (a, b)
 none_same None None e = refl
-none_same None (Some b) e = false_true e
-none_same (Some a) None e = false_true e
-none_same (Some a) (Some b) e = false_true e
+none_same None (Some b) e = cc
+none_same (Some a) None e = cc
+none_same (Some a) (Some b) e = cc
 
 module _ (g : Group) where
   abbrev First : Operand → Type 0
@@ -63,7 +60,7 @@ module _ (g : Group) where
 
   one_from : operand_count g ≡ 1 → (a b : Option Operand) → Grouped g (a, b) → (x : Operand) × First x × (◌≡◌ {A = Operands} (Some x, None) (a, b)) × (operands_bytes (a, b) ≡ operand_bytes x)
   one_from c None None l = clash (operand_count g) 1 0 c l.0 (λ e. omega arith)
-  one_from c None (Some b) l = false_true l.0
+  one_from c None (Some b) l = cc l.0
   one_from c (Some a) None l = (a, ((and_parts _ _ l.0).1, l.1), refl, append-nil (operand_bytes a))
   one_from c (Some a) (Some b) l = clash (operand_count g) 1 2 c (and_parts _ _ l.0).0 (λ e. omega arith)
 
@@ -85,7 +82,7 @@ module _ (g : Group) where
 
   pair_split : operand_count g ≡ 2 → (a b : Option Operand) → Grouped g (a, b) → (x : Operand) × First x × Both x (a, b) × (operands_bytes (a, b) ≡ operand_bytes x ++ bytes_if b)
   pair_split c None None l = clash (operand_count g) 2 0 c l.0 (λ e. omega arith)
-  pair_split c None (Some b) l = false_true l.0
+  pair_split c None (Some b) l = cc l.0
   pair_split c (Some a) None l = clash (operand_count g) 2 1 c (and_parts _ _ l.0).0 (λ e. omega arith)
   pair_split c (Some a) (Some b) l =
       let f = and_parts _ _ (and_parts _ _ l.0).1 in

@@ -155,26 +155,22 @@ bits_short n h = short_selected (ltb n (2 ^ 15)) n refl h
 abbrev tag : Operand → ModeByte
 tag a = marked (mode a) (register_of (digit a))
 
+pub index_low : (r : reg.Register) → r.index < 16
+index_low r = ltb→lt r.index 16 r.below
+
 digit_low : (a : Operand) → digit a % 16 ≡ digit a
-digit_low (Immediate n) = refl
-digit_low (Register r) = let h = ltb→lt r.index 16 r.below in omega arith
-digit_low (Direct a) = refl
-digit_low (Indirect r) = let h = ltb→lt r.index 16 r.below in omega arith
-digit_low (Relative r d) = let h = ltb→lt r.index 16 r.below in omega arith
-digit_low (Indexed a r) = let h = ltb→lt r.index 16 r.below in omega arith
-digit_low (PcRelative d) = refl
+digit_low (Register r) = omega (arith, index_low r)
+digit_low (Indirect r) = omega (arith, index_low r)
+digit_low (Relative r d) = omega (arith, index_low r)
+digit_low (Indexed a r) = omega (arith, index_low r)
+digit_low a = refl
 
 same_digit : (r : reg.Register) → register_of r.index ≡ r
-same_digit r = same_register _ r (let h = ltb→lt r.index 16 r.below in omega arith)
+same_digit r = same_register _ r (omega (arith, index_low r))
 
 clean_tag : (a : Operand) → clean (mode a) (digit a % 16) ≡ true
 clean_tag (Immediate n) = refl
-clean_tag (Register r) = refl
-clean_tag (Direct a) = refl
-clean_tag (Indirect r) = refl
-clean_tag (Relative r d) = refl
-clean_tag (Indexed a r) = refl
-clean_tag (PcRelative d) = refl
+clean_tag a = refl
 
 valued_tag : (a : Operand) → T (within a) → Valued (mode a) (register_of (digit a)) a
 valued_tag (Immediate n) t = (n.0, ltb→lt n.0 (2 ^ 32) t, refl)

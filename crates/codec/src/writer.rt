@@ -62,7 +62,8 @@ fn push_operand(bytes: &mut Encoding, operand: Option<Operand>)
     }
 }
 
-// How many bytes an instruction has, from 1 to 11.
+// How many bytes an instruction has, from 1 to 11. Told by the modes, since a caller that only plans
+// needs no bytes.
 pub fn encoded_length(instruction: &Instruction) -> usize
     ensures value { result ≡ length (bytes instruction.now) }
     ensures bound { result ≤ 11 }

@@ -35,6 +35,7 @@ impl ProgramFault {
     }
 }
 
+// By hand and not derived: a clause names what `?` makes of the refusal.
 impl From<ReadFault> for ProgramFault {
     ghost from_gives = { λ x y. y ≡ Read x };
 

@@ -14,8 +14,9 @@ use codec::source::Source;
 fn count<S: Source>(source: &S) -> Result<usize, ReadFault>
     ensures { result ≡ counted (whole (S.Source.shows source.now) (S.Source.extent source.now)) }
 {
+    // A loop is plainer: an iterator would have to end with the refusal that it hands out.
     let mut place = Place { offset: 0 };
-    let mut n: usize = 0;
+    let mut n = 0;
     while source.byte_at(place.offset).is_some() {
         read_next(source, &mut place)?;
         n += 1;

@@ -30,7 +30,8 @@ pub fn write_program(program: &[Instruction], out: &mut [u8]) -> Result<usize, W
     ensures reads_back { ProgramReadWhole program.now }
 {
     let total = measure(program, out.len())?;
-    let mut at: usize = 0;
+    // A place is plainer than a slice that shrinks, whose loan each round would hand on.
+    let mut at = 0;
     for instruction in program {
         // What was measured fits.
         at += write(instruction, &mut out[at..]).unwrap();
