@@ -49,10 +49,6 @@ Written (Err f) bs = Unit {0}
 abbrev pub Worked : Example → Type 0
 Worked e = (decode (listed e.bytes) 0 ≡ e.reads) × Written e.reads e.bytes
 
-abbrev pub All : (Example → Type 0) → List Example → Type 0
-All P [] = Unit {0}
-All P (x ∷ xs) = P x × All P xs
-
 -- 112 bytes back from 1FF00110h is 1FF000A0h
 abbrev pub BackwardJump : Type 0
 BackwardJump = sums.displaced (sums.address 0x1ff00110) (backward 111) ≡ sums.address 0x1ff000a0

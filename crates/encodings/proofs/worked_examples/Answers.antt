@@ -3,7 +3,7 @@ use Rattle.encodings.proofs.worked_examples.Goals as goal
 
 pub returns : goal.returns
 returns c = record {
-  count = c.example_count.ensures;
+  count = refl;
   proved = ((refl, refl), ((refl, refl), ((refl, refl), ((refl, refl), ((refl, tt), tt)))));
   backward = refl;
 }
