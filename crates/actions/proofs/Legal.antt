@@ -1,6 +1,6 @@
 -- A pairing is legal exactly where it is some action. Assumes nothing.
-use Rattle.std.proofs.Common.{◌≡◌, Bool, false, ◌||◌, T, is_some, Some, None, Option, sym, refl, ap, ◌∙◌, subst}
-use Rattle.actions.specs.Actions.{action_of, any_source, displacement_of, inward_of, mapped, memory_of, number_of, outward_of, pair_of, place_of, plain_source, register_of, with_none, with_one}
+use Rattle.std.proofs.Common.{◌≡◌, Bool, false, ◌||◌, T, is_some, IsSome, Some, None, Option, option_map, sym, refl, ap, ◌∙◌, subst}
+use Rattle.actions.specs.Actions.{action_of, any_source, displacement_of, inward_of, memory_of, number_of, outward_of, pair_of, place_of, plain_source, register_of, with_none, with_one}
 use Rattle.actions.specs.declared.action.Action.{Action}
 use Rattle.cisca.specs.Legality.{mode_if, pairing}
 use Rattle.cisca.specs.declared.instruction.Instruction.{Instruction}
@@ -16,7 +16,7 @@ use Rattle.operands.specs.declared.operand.Operand.TheVariants as o
 abbrev takes : Group → Option Operand → Option Operand → Bool
 takes g a b = grouped g (mode_if a) (mode_if b)
 
-mapped_some : {X Y : Type 0} (f : X → Y) (x : Option X) → is_some x ≡ is_some (mapped f x)
+mapped_some : {X Y : Type 0} (f : X → Y) (x : Option X) → is_some x ≡ is_some (option_map f x)
 mapped_some f None = refl
 mapped_some f (Some x) = refl
 
@@ -178,8 +178,12 @@ legal op.Iret a b = none_fits _ a b
 legal op.In a b = inward_fits a b ∙ mapped_some _ (inward_of a b)
 legal op.Out a b = outward_fits a b ∙ mapped_some _ (outward_of a b)
 
--- so an instruction is never without an action
-pub never : (i : Instruction) (o : Operation) (a b : Option Operand) (r : Option Action) → o ≡ i.operation → a ≡ i.first → b ≡ i.second → r ≡ action_of o a b → r ≡ None → ⊥
-never i o a b r e1 e2 e3 e4 e5 =
-    let none : action_of i.operation i.first i.second ≡ None = sym (e4 ∙ λ j. action_of (e1 j) (e2 j) (e3 j)) ∙ e5 in
-    subst T (legal i.operation i.first i.second ∙ ap is_some none) i.legal
+is_there : (r : Option Action) → T (is_some r) → IsSome r
+is_there None t = absurd t
+is_there (Some x) t = refl
+
+-- so an instruction always has an action
+pub acts : (i : Instruction) (o : Operation) (a b : Option Operand) (r : Option Action) → o ≡ i.operation → a ≡ i.first → b ≡ i.second → r ≡ action_of o a b → IsSome r
+acts i o a b r e1 e2 e3 e4 =
+    let same : r ≡ action_of i.operation i.first i.second = e4 ∙ λ j. action_of (e1 j) (e2 j) (e3 j) in
+    is_there r (subst T (legal i.operation i.first i.second ∙ ap is_some (sym same)) i.legal)

@@ -1,10 +1,13 @@
 // The actions of the CISCA machine. A legal instruction is exactly one of them.
+ghost use Rattle.std.specs.Prelude.{◌≡◌};
+ghost use Rattle.actions.specs.declared.action.Action.TheVariants.{Inner};
+
 use arithmetic::operation::{BinaryOperation, Comparison, UnaryOperation};
 use operands::register::Register;
 use quantity::{Address, Displacement, Number};
 
 // How a word in memory is found: modes 2 to 5.
-#[derive(Clone, Copy)]
+#[derive(Clone, Copy, PartialEq, Eq, Debug)]
 pub enum MemoryOperand {
     Direct(Address),
     Indirect(Register),
@@ -13,21 +16,21 @@ pub enum MemoryOperand {
 }
 
 // Where a word is kept: modes 1 to 5.
-#[derive(Clone, Copy)]
+#[derive(Clone, Copy, PartialEq, Eq, Debug)]
 pub enum Place {
     Register(Register),
     Memory(MemoryOperand),
 }
 
 // Where a word comes from: modes 0 to 5.
-#[derive(Clone, Copy)]
+#[derive(Clone, Copy, PartialEq, Eq, Debug)]
 pub enum Source {
     Immediate(Number),
     Place(Place),
 }
 
 // What a conditional jump asks of the last comparison.
-#[derive(Clone, Copy)]
+#[derive(Clone, Copy, PartialEq, Eq, Debug)]
 pub enum Condition {
     Equal,
     NotEqual,
@@ -38,7 +41,7 @@ pub enum Condition {
 }
 
 // What is done with the processor and its memory alone.
-#[derive(Clone, Copy)]
+#[derive(Clone, Copy, PartialEq, Eq, Debug)]
 pub enum Command {
     // NOP.
     Pass,
@@ -65,9 +68,17 @@ pub enum Command {
 }
 
 // A command, or a word that goes through a port; the memory operand's address is the port's number.
-#[derive(Clone, Copy)]
+#[derive(Clone, Copy, PartialEq, Eq, Debug)]
 pub enum Action {
     Inner(Command),
     Input(Register, MemoryOperand),
     Output(MemoryOperand, Register),
+}
+
+impl From<Command> for Action {
+    ghost from_gives = { λ x y. y ≡ Inner x };
+
+    fn from(command: Command) -> Action {
+        Action::Inner(command)
+    }
 }

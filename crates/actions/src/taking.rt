@@ -1,6 +1,7 @@
 // Taking an instruction apart.
-ghost use Rattle.std.specs.Prelude.{◌≡◌, Some, None};
-ghost use Rattle.actions.specs.Actions.{action, action_of, altering, any_source, branching, combining, comparing, displacement_of, inward_of, memory_of, number_of, outward_of, pair_of, place_of, plain_source, register_of, source_for, with_none, with_one};
+ghost use Rattle.std.specs.Prelude.{◌≡◌, Some};
+ghost use Rattle.std.specs.Option.{option_zip};
+ghost use Rattle.actions.specs.Actions.{action, action_of, altering, any_source, branching, combining, comparing, displacement_of, inward_of, memory_of, number_of, only, outward_of, pair_of, place_of, plain_source, register_of, source_for, with_none, with_one};
 ghost use Rattle.actions.specs.declared.action.Action.TheVariants.{Inner};
 ghost use Rattle.cisca.specs.Making.{parts};
 
@@ -29,10 +30,10 @@ fn memory_operand(operand: Operand) -> Option<MemoryOperand>
 fn register_operand(operand: Operand) -> Option<Register>
     ensures { result ≡ register_of operand }
 {
-    match operand {
-        Operand::Register(register) => Some(register),
-        _ => None,
-    }
+    let Operand::Register(register) = operand else {
+        return None;
+    };
+    Some(register)
 }
 
 // Modes 1 to 5.
@@ -41,7 +42,7 @@ fn place_operand(operand: Operand) -> Option<Place>
 {
     match operand {
         Operand::Register(register) => Some(Place::Register(register)),
-        _ => Some(Place::Memory(memory_operand(operand)?)),
+        _ => memory_operand(operand).map(Place::Memory),
     }
 }
 
@@ -62,7 +63,7 @@ fn any_operand(operand: Operand) -> Option<Source>
 {
     match operand {
         Operand::Immediate(number) => Some(Source::Immediate(number)),
-        _ => Some(Source::Place(place_operand(operand)?)),
+        _ => place_operand(operand).map(Source::Place),
     }
 }
 
@@ -76,179 +77,167 @@ fn source_operand(destination: Place, operand: Operand) -> Option<Source>
     }
 }
 
-fn no_operand(command: Command, first: Option<Operand>, second: Option<Operand>) -> Option<Action>
-    ensures { result ≡ with_none (Inner command) first second }
-{
-    match (first, second) {
-        (None, None) => Some(Action::Inner(command)),
-        _ => None,
-    }
-}
-
-fn one_place(first: Option<Operand>, second: Option<Operand>) -> Option<Place>
-    ensures { result ≡ with_one place_of first second }
-{
-    match (first, second) {
-        (Some(operand), None) => place_operand(operand),
-        _ => None,
-    }
-}
-
-fn one_number(first: Option<Operand>, second: Option<Operand>) -> Option<Number>
-    ensures { result ≡ with_one number_of first second }
-{
-    match (first, second) {
-        (Some(Operand::Immediate(number)), None) => Some(number),
-        _ => None,
-    }
-}
-
-fn one_displacement(first: Option<Operand>, second: Option<Operand>) -> Option<Displacement>
-    ensures { result ≡ with_one displacement_of first second }
-{
-    match (first, second) {
-        (Some(Operand::PcRelative(by)), None) => Some(by),
-        _ => None,
-    }
-}
-
-// A destination and a source.
-fn pair(first: Option<Operand>, second: Option<Operand>) -> Option<(Place, Source)>
-    ensures { result ≡ pair_of first second }
-{
-    match (first, second) {
-        (Some(a), Some(b)) => {
-            let destination = place_operand(a)?;
-            Some((destination, source_operand(destination, b)?))
-        }
-        _ => None,
-    }
-}
-
-// A register, then a port.
-fn inward(first: Option<Operand>, second: Option<Operand>) -> Option<(Register, MemoryOperand)>
-    ensures { result ≡ inward_of first second }
-{
-    match (first, second) {
-        (Some(a), Some(b)) => {
-            let register = register_operand(a)?;
-            Some((register, memory_operand(b)?))
-        }
-        _ => None,
-    }
-}
-
-// A port, then a register.
-fn outward(first: Option<Operand>, second: Option<Operand>) -> Option<(MemoryOperand, Register)>
-    ensures { result ≡ outward_of first second }
-{
-    match (first, second) {
-        (Some(a), Some(b)) => {
-            let port = memory_operand(a)?;
-            Some((port, register_operand(b)?))
-        }
-        _ => None,
-    }
-}
-
-fn combine(
-    operation: BinaryOperation,
+// The operands as they stand in an instruction.
+#[derive(Clone, Copy)]
+struct Operands {
     first: Option<Operand>,
     second: Option<Operand>,
-) -> Option<Action>
-    ensures { result ≡ combining operation first second }
-{
-    let (destination, source) = pair(first, second)?;
-    Some(Action::Inner(Command::Combine(operation, destination, source)))
 }
 
-fn compare(
-    comparison: Comparison,
-    first: Option<Operand>,
-    second: Option<Operand>,
-) -> Option<Action>
-    ensures { result ≡ comparing comparison first second }
-{
-    let (destination, source) = pair(first, second)?;
-    Some(Action::Inner(Command::Compare(comparison, destination, source)))
-}
+impl Operands {
+    // The command, where there is no operand.
+    fn none(self, command: Command) -> Option<Action>
+        ensures { result ≡ with_none (Inner command) self.first self.second }
+    {
+        match (self.first, self.second) {
+            (None, None) => Some(Action::Inner(command)),
+            _ => None,
+        }
+    }
 
-fn alter(
-    operation: UnaryOperation,
-    first: Option<Operand>,
-    second: Option<Operand>,
-) -> Option<Action>
-    ensures { result ≡ altering operation first second }
-{
-    Some(Action::Inner(Command::Alter(operation, one_place(first, second)?)))
-}
+    // The operand, where there is one.
+    fn only(self) -> Option<Operand>
+        ensures { result ≡ only self.first self.second }
+    {
+        match (self.first, self.second) {
+            (operand, None) => operand,
+            _ => None,
+        }
+    }
 
-fn branch(condition: Condition, first: Option<Operand>, second: Option<Operand>) -> Option<Action>
-    ensures { result ≡ branching condition first second }
-{
-    Some(Action::Inner(Command::Branch(condition, one_displacement(first, second)?)))
-}
+    // The operands, where there are two.
+    fn both(self) -> Option<(Operand, Operand)>
+        ensures { result ≡ option_zip self.first self.second }
+    {
+        self.first.zip(self.second)
+    }
 
-// What the operation does with these operands, where it takes them.
-fn taken_apart(
-    operation: Operation,
-    first: Option<Operand>,
-    second: Option<Operand>,
-) -> Option<Action>
-    ensures { result ≡ action_of operation first second }
-{
-    match operation {
-        Operation::Nop => no_operand(Command::Pass, first, second),
-        Operation::Sti => no_operand(Command::Enable(true), first, second),
-        Operation::Cli => no_operand(Command::Enable(false), first, second),
-        Operation::Mov => {
-            let (destination, source) = pair(first, second)?;
-            Some(Action::Inner(Command::Move(destination, source)))
-        }
-        Operation::Push => Some(Action::Inner(Command::Push(one_place(first, second)?))),
-        Operation::Pop => Some(Action::Inner(Command::Pop(one_place(first, second)?))),
-        Operation::Add => combine(BinaryOperation::Add, first, second),
-        Operation::Sub => combine(BinaryOperation::Sub, first, second),
-        Operation::Mul => combine(BinaryOperation::Mul, first, second),
-        Operation::Div => {
-            let (destination, source) = pair(first, second)?;
-            Some(Action::Inner(Command::Divide(destination, source)))
-        }
-        Operation::Inc => alter(UnaryOperation::Inc, first, second),
-        Operation::Dec => alter(UnaryOperation::Dec, first, second),
-        Operation::Cmp => compare(Comparison::Cmp, first, second),
-        Operation::Neg => alter(UnaryOperation::Neg, first, second),
-        Operation::And => combine(BinaryOperation::And, first, second),
-        Operation::Or => combine(BinaryOperation::Or, first, second),
-        Operation::Xor => combine(BinaryOperation::Xor, first, second),
-        Operation::Test => compare(Comparison::Test, first, second),
-        Operation::Not => alter(UnaryOperation::Not, first, second),
-        Operation::Sal => combine(BinaryOperation::Sal, first, second),
-        Operation::Sar => combine(BinaryOperation::Sar, first, second),
-        Operation::Jmp => {
-            let target = Address(one_number(first, second)?.0);
-            Some(Action::Inner(Command::Jump(target)))
-        }
-        Operation::Je => branch(Condition::Equal, first, second),
-        Operation::Jne => branch(Condition::NotEqual, first, second),
-        Operation::Jl => branch(Condition::Less, first, second),
-        Operation::Jle => branch(Condition::LessOrEqual, first, second),
-        Operation::Jg => branch(Condition::Greater, first, second),
-        Operation::Jge => branch(Condition::GreaterOrEqual, first, second),
-        Operation::Call => {
-            let target = Address(one_number(first, second)?.0);
-            Some(Action::Inner(Command::Call(target)))
-        }
-        Operation::Ret => no_operand(Command::Return, first, second),
-        Operation::Int => Some(Action::Inner(Command::Interrupt(one_number(first, second)?))),
-        Operation::Iret => no_operand(Command::Resume, first, second),
-        Operation::In => {
-            let (register, port) = inward(first, second)?;
-            Some(Action::Input(register, port))
-        }
-        Operation::Out => {
-            let (port, register) = outward(first, second)?;
-            Some(Action::Output(port, register))
+    fn place(self) -> Option<Place>
+        ensures { result ≡ with_one place_of self.first self.second }
+    {
+        place_operand(self.only()?)
+    }
+
+    fn number(self) -> Option<Number>
+        ensures { result ≡ with_one number_of self.first self.second }
+    {
+        let Operand::Immediate(number) = self.only()? else {
+            return None;
+        };
+        Some(number)
+    }
+
+    fn displacement(self) -> Option<Displacement>
+        ensures { result ≡ with_one displacement_of self.first self.second }
+    {
+        let Operand::PcRelative(by) = self.only()? else {
+            return None;
+        };
+        Some(by)
+    }
+
+    // A destination and a source.
+    fn pair(self) -> Option<(Place, Source)>
+        ensures { result ≡ pair_of self.first self.second }
+    {
+        let (a, b) = self.both()?;
+        let destination = place_operand(a)?;
+        Some((destination, source_operand(destination, b)?))
+    }
+
+    // A register, then a port.
+    fn inward(self) -> Option<(Register, MemoryOperand)>
+        ensures { result ≡ inward_of self.first self.second }
+    {
+        let (a, b) = self.both()?;
+        Some((register_operand(a)?, memory_operand(b)?))
+    }
+
+    // A port, then a register.
+    fn outward(self) -> Option<(MemoryOperand, Register)>
+        ensures { result ≡ outward_of self.first self.second }
+    {
+        let (a, b) = self.both()?;
+        Some((memory_operand(a)?, register_operand(b)?))
+    }
+
+    fn combine(self, operation: BinaryOperation) -> Option<Action>
+        ensures { result ≡ combining operation self.first self.second }
+    {
+        let (destination, source) = self.pair()?;
+        Some(Command::Combine(operation, destination, source).into())
+    }
+
+    fn compare(self, comparison: Comparison) -> Option<Action>
+        ensures { result ≡ comparing comparison self.first self.second }
+    {
+        let (destination, source) = self.pair()?;
+        Some(Command::Compare(comparison, destination, source).into())
+    }
+
+    fn alter(self, operation: UnaryOperation) -> Option<Action>
+        ensures { result ≡ altering operation self.first self.second }
+    {
+        Some(Command::Alter(operation, self.place()?).into())
+    }
+
+    fn branch(self, condition: Condition) -> Option<Action>
+        ensures { result ≡ branching condition self.first self.second }
+    {
+        Some(Command::Branch(condition, self.displacement()?).into())
+    }
+
+    // What the operation does with these operands, where it takes them.
+    fn taken_by(self, operation: Operation) -> Option<Action>
+        ensures { result ≡ action_of operation self.first self.second }
+    {
+        match operation {
+            Operation::Nop => self.none(Command::Pass),
+            Operation::Sti => self.none(Command::Enable(true)),
+            Operation::Cli => self.none(Command::Enable(false)),
+            Operation::Mov => {
+                let (destination, source) = self.pair()?;
+                Some(Command::Move(destination, source).into())
+            }
+            Operation::Push => Some(Command::Push(self.place()?).into()),
+            Operation::Pop => Some(Command::Pop(self.place()?).into()),
+            Operation::Add => self.combine(BinaryOperation::Add),
+            Operation::Sub => self.combine(BinaryOperation::Sub),
+            Operation::Mul => self.combine(BinaryOperation::Mul),
+            Operation::Div => {
+                let (destination, source) = self.pair()?;
+                Some(Command::Divide(destination, source).into())
+            }
+            Operation::Inc => self.alter(UnaryOperation::Inc),
+            Operation::Dec => self.alter(UnaryOperation::Dec),
+            Operation::Cmp => self.compare(Comparison::Cmp),
+            Operation::Neg => self.alter(UnaryOperation::Neg),
+            Operation::And => self.combine(BinaryOperation::And),
+            Operation::Or => self.combine(BinaryOperation::Or),
+            Operation::Xor => self.combine(BinaryOperation::Xor),
+            Operation::Test => self.compare(Comparison::Test),
+            Operation::Not => self.alter(UnaryOperation::Not),
+            Operation::Sal => self.combine(BinaryOperation::Sal),
+            Operation::Sar => self.combine(BinaryOperation::Sar),
+            Operation::Jmp => Some(Command::Jump(Address::from(self.number()?)).into()),
+            Operation::Je => self.branch(Condition::Equal),
+            Operation::Jne => self.branch(Condition::NotEqual),
+            Operation::Jl => self.branch(Condition::Less),
+            Operation::Jle => self.branch(Condition::LessOrEqual),
+            Operation::Jg => self.branch(Condition::Greater),
+            Operation::Jge => self.branch(Condition::GreaterOrEqual),
+            Operation::Call => Some(Command::Call(Address::from(self.number()?)).into()),
+            Operation::Ret => self.none(Command::Return),
+            Operation::Int => Some(Command::Interrupt(self.number()?).into()),
+            Operation::Iret => self.none(Command::Resume),
+            Operation::In => {
+                let (register, port) = self.inward()?;
+                Some(Action::Input(register, port))
+            }
+            Operation::Out => {
+                let (port, register) = self.outward()?;
+                Some(Action::Output(port, register))
+            }
         }
     }
 }
@@ -257,12 +246,9 @@ fn taken_apart(
 pub fn action_of(instruction: &Instruction) -> Action
     ensures { Some result ≡ action (parts instruction.now) }
 {
-    match taken_apart(
-        instruction.operation(),
-        instruction.first(),
-        instruction.second(),
-    ) {
-        Some(action) => action,
-        None => unreachable(),
-    }
+    let operands = Operands {
+        first: instruction.first(),
+        second: instruction.second(),
+    };
+    operands.taken_by(instruction.operation()).unwrap()
 }

@@ -1,5 +1,5 @@
 -- A processor and its memory while an instruction is done: its operands, read and written. Assumes nothing.
-use Rattle.std.specs.Prelude.{ℕ, Ok, Err, Result}
+use Rattle.std.specs.Prelude.{◌≡◌, ℕ, Ok, Err, Result}
 use Rattle.actions.specs.declared.action.MemoryOperand.{MemoryOperand}
 use Rattle.actions.specs.declared.action.MemoryOperand.TheVariants.{Direct, Indexed, Indirect, Relative}
 use Rattle.actions.specs.declared.action.Place.{Place}
@@ -20,6 +20,7 @@ use Rattle.quantity.specs.declared.Number.{Number}
 use Rattle.words.specs.Words.{and_then, word_reading, word_writing, word_written}
 use Rattle.words.specs.declared.fault.WordFault.{WordFault}
 use Rattle.processor.specs.Registers.{with_register}
+use Rattle.execution.specs.declared.planner.Planner.{Planner}
 
 pub record Context : Type 0 where
   pub processor : Processor
@@ -27,6 +28,10 @@ pub record Context : Type 0 where
 
 abbrev pub context : Processor → (ℕ → Cell) → Context
 context p m = record { processor = p; memory = m }
+
+-- the context that a planner sees, where its store shows these cells
+abbrev pub context_of : {S : Type 0} → (S → ℕ → Cell) → Planner S → Context
+context_of cells p = context p.processor (cells p.store.now)
 
 -- the context with another processor
 abbrev pub turned : Processor → Context → Context
@@ -89,3 +94,7 @@ writable (place.Memory m) s = at_destination (word_writing s.memory (effective s
 abbrev pub outcome : Result Change Cause → (ℕ → Cell) → Result Context Cause
 outcome (Ok c) m = Ok (context c.processor (changed c m))
 outcome (Err f) m = Err f
+
+-- the change found is what f makes of the context that the planner sees; a refusal is that of f
+abbrev pub Plans : {S : Type 0} → (S → ℕ → Cell) → Planner S → Result Change Cause → (Context → Result Context Cause) → Type 0
+Plans cells p r f = outcome r (cells p.store.now) ≡ f (context_of cells p)

@@ -1,111 +1,84 @@
 // INT and the delivery of an interrupt.
-ghost use Rattle.std.specs.Prelude.{◌≡◌, IfOk, None};
-ghost use Rattle.execution.specs.Contexts.{blamed, context, outcome};
+ghost use Rattle.std.specs.Prelude.{◌≡◌, None};
+ghost use Rattle.execution.specs.Contexts.{Plans, blamed, context, outcome};
 ghost use Rattle.execution.specs.Interrupts.{delivering, interrupting, serving};
 ghost use Rattle.execution.specs.Stack.{pushed};
-ghost use Rattle.processor.specs.Faults.{by_stack, by_vector};
+ghost use Rattle.processor.specs.Faults.{by_stack};
 ghost use Rattle.processor.specs.Views.{changed, stored};
-ghost use Rattle.words.specs.Words.{word_reading, word_writing};
+ghost use Rattle.words.specs.Words.{word_writing};
 
+use crate::parts::{read_part, test_part};
 use crate::pending::Pending;
-use crate::registers::{stack_lowered, stack_top, with_pc};
-use crate::stack::test_stack;
+use crate::planner::Planner;
 use memory::Store;
 use processor::effect::{Change, StoreWrite};
-use processor::fault::{Cause, StackFault, VectorFault};
+use processor::fault::{Cause, StackFault, VectorPart};
 use processor::interrupt::InterruptIndex;
 use processor::state::Processor;
 use quantity::{Address, Number};
-use words::access::read_word;
 
-// The status word is to be pushed.
-fn push_first<S: Store>(store: &S, processor: Processor, word: Number) -> Result<Change, Cause>
-    ensures does { outcome result (S.Readable.cells store.now) ≡ pushed word (context processor (S.Readable.cells store.now)) }
-    ensures alone { IfOk result (λ c. c.second ≡ None) }
-{
-    let after = stack_lowered(processor);
-    let at = stack_top(after);
-    test_stack(store, at)?;
-    Ok(Change {
-        processor: after,
-        first: Some(StoreWrite { at, word }),
-        second: None,
-    })
-}
+impl<S: Store> Planner<'_, S> {
+    // Whether a word of the stack may be written once another is stored: a stored word changes no
+    // mark.
+    fn test_over(&self, write: Option<StoreWrite>, at: Address) -> Result<(), StackFault>
+        ensures { result ≡ blamed by_stack (word_writing (stored write (S.Readable.cells self.now.store.now)) at) }
+    {
+        test_part(self.store, at)
+    }
 
-// Whether a word of the stack may be written once another is stored: a stored word changes no mark.
-fn test_over<S: Store>(store: &S, write: Option<StoreWrite>, at: Address) -> Result<(), StackFault>
-    ensures { result ≡ blamed by_stack (word_writing (stored write (S.Readable.cells store.now)) at) }
-{
-    test_stack(store, at)
-}
+    // A second word is to be pushed, once the first is stored.
+    fn push_second(&self, done: Change, word: Number) -> Result<Change, Cause>
+        requires { done.second ≡ None }
+        ensures { outcome result (S.Readable.cells self.now.store.now) ≡ pushed word (context done.processor (changed done (S.Readable.cells self.now.store.now))) }
+    {
+        let after = done.processor.stack_lowered();
+        let at = after.stack_top();
+        self.test_over(done.first, at)?;
+        Ok(Change {
+            processor: after,
+            first: done.first,
+            second: Some(StoreWrite { at, word }),
+        })
+    }
 
-// A second word is to be pushed, once the first is stored.
-fn push_second<S: Store>(store: &S, done: Change, word: Number) -> Result<Change, Cause>
-    requires { done.second ≡ None }
-    ensures { outcome result (S.Readable.cells store.now) ≡ pushed word (context done.processor (changed done (S.Readable.cells store.now))) }
-{
-    let after = stack_lowered(done.processor);
-    let at = stack_top(after);
-    test_over(store, done.first, at)?;
-    Ok(Change {
-        processor: after,
-        first: done.first,
-        second: Some(StoreWrite { at, word }),
-    })
-}
+    // The status word and PC are pushed, and PC becomes the vector, which is read once both words
+    // are stored.
+    fn interrupt(&self, index: InterruptIndex) -> Result<Change, Cause>
+        ensures { Plans S.Readable.cells self.now result (interrupting index.value) }
+    {
+        let once = self.push_word(self.processor.status.pack())?;
+        let twice = self.push_second(once, Number::from(once.processor.pc))?;
+        let memory = Pending {
+            below: self.store,
+            change: twice,
+        };
+        let at = Address(4 * u32::from(index.value()));
+        let vector = read_part::<VectorPart, _>(&memory, at)?;
+        Ok(Change {
+            processor: twice.processor.with_pc(Address::from(vector)),
+            ..twice
+        })
+    }
 
-// The vector, once both words are stored.
-fn read_vector<S: Store>(store: &S, done: Change, at: Address) -> Result<Number, VectorFault>
-    ensures { result ≡ blamed by_vector (word_reading (changed done (S.Readable.cells store.now)) at) }
-{
-    let memory = Pending {
-        below: store,
-        change: done,
-    };
-    Ok(read_word(&memory, at)?)
-}
+    // INT.
+    pub(crate) fn serve(&self, number: Number) -> Result<Change, Cause>
+        ensures { Plans S.Readable.cells self.now result (serving number) }
+    {
+        let index = InterruptIndex::try_from(number.0)?;
+        self.interrupt(index)
+    }
 
-// The status word and PC are pushed, and PC becomes the vector.
-fn interrupt<S: Store>(
-    store: &S,
-    processor: Processor,
-    index: InterruptIndex,
-) -> Result<Change, Cause>
-    ensures { outcome result (S.Readable.cells store.now) ≡ interrupting index.value (context processor (S.Readable.cells store.now)) }
-{
-    let once = push_first(store, processor, processor.status.pack())?;
-    let twice = push_second(store, once, Number(once.processor.pc.0))?;
-    let vector = read_vector(store, twice, Address(4 * u32::from(index.value())))?;
-    Ok(Change {
-        processor: with_pc(twice.processor, Address(vector.0)),
-        ..twice
-    })
-}
-
-// INT.
-pub(crate) fn serve<S: Store>(
-    store: &S,
-    processor: Processor,
-    number: Number,
-) -> Result<Change, Cause>
-    ensures { outcome result (S.Readable.cells store.now) ≡ serving number (context processor (S.Readable.cells store.now)) }
-{
-    let index = InterruptIndex::try_from(number.0)?;
-    interrupt(store, processor, index)
-}
-
-// The delivery of an interrupt, which then waits no more.
-pub(crate) fn deliver<S: Store>(
-    store: &S,
-    processor: Processor,
-    index: InterruptIndex,
-) -> Result<Change, Cause>
-    ensures { outcome result (S.Readable.cells store.now) ≡ delivering index.value (context processor (S.Readable.cells store.now)) }
-{
-    let quiet = Processor {
-        waiting: None,
-        ..processor
-    };
-    interrupt(store, quiet, index)
+    // The delivery of an interrupt, which then waits no more.
+    pub(crate) fn deliver(&self, index: InterruptIndex) -> Result<Change, Cause>
+        ensures { Plans S.Readable.cells self.now result (delivering index.value) }
+    {
+        let quiet = Planner {
+            processor: Processor {
+                waiting: None,
+                ..self.processor
+            },
+            ..*self
+        };
+        quiet.interrupt(index)
+    }
 }

@@ -2,7 +2,7 @@
 ghost use Rattle.std.specs.Prelude.{◌≡◌};
 ghost use Rattle.execution.specs.Jumps.{branched, holds};
 
-use crate::registers::with_pc;
+use crate::planner::Planner;
 use actions::action::Condition;
 use arithmetic::status::Status;
 use processor::state::Processor;
@@ -22,13 +22,16 @@ fn is_met(condition: Condition, status: Status) -> bool
     }
 }
 
-// The processor with PC moved, where the condition holds.
-pub(crate) fn branch(processor: Processor, condition: Condition, by: Displacement) -> Processor
-    ensures { result ≡ branched processor condition by }
-{
-    if is_met(condition, processor.status) {
-        with_pc(processor, processor.pc.displaced(by))
-    } else {
-        processor
+impl<S> Planner<'_, S> {
+    // The processor with PC moved, where the condition holds.
+    pub(crate) fn branch(&self, condition: Condition, by: Displacement) -> Processor
+        ensures { result ≡ branched self.now.processor condition by }
+    {
+        let processor = self.processor;
+        if is_met(condition, processor.status) {
+            processor.with_pc(processor.pc.displaced(by))
+        } else {
+            processor
+        }
     }
 }

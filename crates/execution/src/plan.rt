@@ -1,16 +1,10 @@
 // What one instruction does, as an effect or a fault. Nothing is changed yet.
-ghost use Rattle.std.specs.Prelude.{◌≡◌, None};
-ghost use Rattle.execution.specs.Contexts.{context, outcome};
+ghost use Rattle.std.specs.Prelude.{◌≡◌};
+ghost use Rattle.execution.specs.Contexts.{Plans};
 ghost use Rattle.execution.specs.Executions.{commanded, delivered, executed, next_address, performed};
-ghost use Rattle.processor.specs.Registers.{with_status};
 ghost use Rattle.processor.specs.Views.{effected, view};
 
-use crate::commands::{alter, combine, compare, divide_word, move_word};
-use crate::interrupts::{deliver, serve};
-use crate::jumps::branch;
-use crate::registers::{with_pc, with_status};
-use crate::stack::{call, pop, push, resume, return_to};
-use crate::transfer::{input, output};
+use crate::planner::Planner;
 use actions::action::{Action, Command};
 use actions::taking::action_of;
 use arithmetic::status::Status;
@@ -24,72 +18,55 @@ use processor::interrupt::InterruptIndex;
 use processor::state::Processor;
 use quantity::Address;
 
-// A change of the processor alone.
-fn change_to(processor: Processor) -> Change
-    ensures { result ≡ record { processor = processor; first = None; second = None } }
-{
-    Change {
-        processor,
-        first: None,
-        second: None,
-    }
-}
-
-// What a command does.
-fn command<S: Store>(store: &S, processor: Processor, command: Command) -> Result<Change, Cause>
-    ensures { outcome result (S.Readable.cells store.now) ≡ commanded command (context processor (S.Readable.cells store.now)) }
-{
-    match command {
-        Command::Pass => Ok(change_to(processor)),
-        Command::Enable(enabled) => Ok(change_to(with_status(
-            processor,
-            Status {
-                enabled,
-                ..processor.status
-            },
-        ))),
-        Command::Move(place, source) => move_word(store, processor, place, source),
-        Command::Push(place) => push(store, processor, place),
-        Command::Pop(place) => pop(store, processor, place),
-        Command::Combine(operation, place, source) => {
-            combine(store, processor, operation, place, source)
+impl<S: Store> Planner<'_, S> {
+    // What a command does.
+    fn command(&self, command: Command) -> Result<Change, Cause>
+        ensures { Plans S.Readable.cells self.now result (commanded command) }
+    {
+        let processor = self.processor;
+        match command {
+            Command::Pass => Ok(Change::from(processor)),
+            Command::Enable(enabled) => {
+                let status = Status {
+                    enabled,
+                    ..processor.status
+                };
+                Ok(Change::from(processor.with_status(status)))
+            }
+            Command::Move(place, source) => self.move_word(place, source),
+            Command::Push(place) => self.push(place),
+            Command::Pop(place) => self.pop(place),
+            Command::Combine(operation, place, source) => self.combine(operation, place, source),
+            Command::Divide(place, source) => self.divide_word(place, source),
+            Command::Alter(operation, place) => self.alter(operation, place),
+            Command::Compare(comparison, place, source) => self.compare(comparison, place, source),
+            Command::Jump(target) => Ok(Change::from(processor.with_pc(target))),
+            Command::Branch(condition, by) => Ok(Change::from(self.branch(condition, by))),
+            Command::Call(target) => self.call(target),
+            Command::Return => self.return_to(),
+            Command::Interrupt(number) => self.serve(number),
+            Command::Resume => self.resume(),
         }
-        Command::Divide(place, source) => divide_word(store, processor, place, source),
-        Command::Alter(operation, place) => alter(store, processor, operation, place),
-        Command::Compare(comparison, place, source) => {
-            compare(store, processor, comparison, place, source)
-        }
-        Command::Jump(target) => Ok(change_to(with_pc(processor, target))),
-        Command::Branch(condition, by) => Ok(change_to(branch(processor, condition, by))),
-        Command::Call(target) => call(store, processor, target),
-        Command::Return => return_to(store, processor),
-        Command::Interrupt(number) => serve(store, processor, number),
-        Command::Resume => resume(store, processor),
     }
-}
 
-// What an action does.
-fn perform<S: Store, P: Ports>(
-    store: &S,
-    ports: &P,
-    processor: Processor,
-    action: Action,
-) -> Result<Effect, Cause>
-    ensures { effected result (view processor (S.Readable.cells store.now) (P.Ports.words ports.now)) ≡ performed action (view processor (S.Readable.cells store.now) (P.Ports.words ports.now)) }
-{
-    match action {
-        Action::Inner(inner) => Ok(Effect {
-            change: command(store, processor, inner)?,
-            output: None,
-        }),
-        Action::Input(register, port) => Ok(Effect {
-            change: change_to(input(ports, processor, register, port)?),
-            output: None,
-        }),
-        Action::Output(port, register) => Ok(Effect {
-            change: change_to(processor),
-            output: Some(output(ports, processor, port, register)?),
-        }),
+    // What an action does.
+    fn perform<P: Ports>(&self, ports: &P, action: Action) -> Result<Effect, Cause>
+        ensures { let before = view self.now.processor (S.Readable.cells self.now.store.now) (P.Ports.words ports.now) in effected result before ≡ performed action before }
+    {
+        match action {
+            Action::Inner(command) => Ok(Effect::from(self.command(command)?)),
+            Action::Input(register, port) => {
+                let after = self.input(ports, register, port)?;
+                Ok(Effect::from(Change::from(after)))
+            }
+            Action::Output(port, register) => {
+                let write = self.output(ports, port, register)?;
+                Ok(Effect {
+                    change: Change::from(self.processor),
+                    output: Some(write),
+                })
+            }
+        }
     }
 }
 
@@ -110,14 +87,16 @@ pub fn plan<S: Store, P: Ports>(
 ) -> Result<Effect, StepFault>
     ensures { effected result (view processor (S.Readable.cells store.now) (P.Ports.words ports.now)) ≡ executed instruction.now (view processor (S.Readable.cells store.now) (P.Ports.words ports.now)) }
 {
-    let after = with_pc(processor, next_address(instruction, processor));
-    match perform(store, ports, after, action_of(instruction)) {
-        Ok(effect) => Ok(effect),
-        Err(cause) => Err(StepFault {
+    let planner = Planner {
+        store,
+        processor: processor.with_pc(next_address(instruction, processor)),
+    };
+    planner
+        .perform(ports, action_of(instruction))
+        .map_err(|cause| StepFault {
             cause,
             pc: processor.pc,
-        }),
-    }
+        })
 }
 
 // What the delivery of an interrupt does.
@@ -129,14 +108,12 @@ pub fn plan_delivery<S: Store, P: Ports>(
 ) -> Result<Effect, StepFault>
     ensures { effected result (view processor (S.Readable.cells store.now) (P.Ports.words ports.now)) ≡ delivered index.value (view processor (S.Readable.cells store.now) (P.Ports.words ports.now)) }
 {
-    match deliver(store, processor, index) {
-        Ok(change) => Ok(Effect {
-            change,
-            output: None,
-        }),
-        Err(cause) => Err(StepFault {
+    let planner = Planner { store, processor };
+    planner
+        .deliver(index)
+        .map(Effect::from)
+        .map_err(|cause| StepFault {
             cause,
             pc: processor.pc,
-        }),
-    }
+        })
 }

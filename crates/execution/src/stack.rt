@@ -1,109 +1,84 @@
 // The commands on the stack.
-ghost use Rattle.std.specs.Prelude.{◌≡◌};
-ghost use Rattle.execution.specs.Contexts.{blamed, context, outcome};
+ghost use Rattle.std.specs.Prelude.{◌≡◌, IfOk, None};
+ghost use Rattle.execution.specs.Contexts.{Plans, context_of};
 ghost use Rattle.execution.specs.Stack.{calling, popped, popping, pushed, pushing, resuming, returning};
-ghost use Rattle.processor.specs.Faults.{by_stack};
-ghost use Rattle.words.specs.Words.{word_reading, word_writing};
 
-use crate::addressing::{keep, source_word};
-use crate::registers::{stack_lowered, stack_raised, stack_top, with_pc, with_status};
+use crate::parts::{read_part, test_part};
+use crate::planner::Planner;
 use actions::action::Place;
 use arithmetic::status::Status;
-use memory::{Readable, Store};
+use memory::Store;
 use processor::effect::{Change, StoreWrite};
-use processor::fault::{Cause, StackFault};
+use processor::fault::{Cause, SourcePart, StackPart};
 use processor::state::Processor;
 use quantity::{Address, Number};
-use words::access::{read_word, word_writable};
 
-// The word at an address of the stack.
-fn read_stack<M: Readable>(memory: &M, at: Address) -> Result<Number, StackFault>
-    ensures { result ≡ blamed by_stack (word_reading (M.Readable.cells memory.now) at) }
-{
-    Ok(read_word(memory, at)?)
-}
+impl<'a, S: Store> Planner<'a, S> {
+    // The word is to be pushed.
+    pub(crate) fn push_word(&self, word: Number) -> Result<Change, Cause>
+        ensures does { Plans S.Readable.cells self.now result (pushed word) }
+        ensures alone { IfOk result (λ c. c.second ≡ None) }
+    {
+        let after = self.processor.stack_lowered();
+        let at = after.stack_top();
+        test_part::<StackPart, S>(self.store, at)?;
+        Ok(Change::storing(after, StoreWrite { at, word }))
+    }
 
-// Whether the word at an address of the stack may be written.
-pub(crate) fn test_stack<S: Store>(store: &S, at: Address) -> Result<(), StackFault>
-    ensures { result ≡ blamed by_stack (word_writing (S.Readable.cells store.now) at) }
-{
-    Ok(word_writable(store, at)?)
-}
+    // The word that is popped, and the processor then.
+    fn pop_word(&self) -> Result<(Number, Processor), Cause>
+        ensures { result ≡ popped (context_of S.Readable.cells self.now) }
+    {
+        let word = read_part::<StackPart, S>(self.store, self.processor.stack_top())?;
+        Ok((word, self.processor.stack_raised()))
+    }
 
-// The word is to be pushed.
-fn push_word<S: Store>(store: &S, processor: Processor, word: Number) -> Result<Change, Cause>
-    ensures { outcome result (S.Readable.cells store.now) ≡ pushed word (context processor (S.Readable.cells store.now)) }
-{
-    let after = stack_lowered(processor);
-    let at = stack_top(after);
-    test_stack(store, at)?;
-    Ok(Change {
-        processor: after,
-        first: Some(StoreWrite { at, word }),
-        second: None,
-    })
-}
+    // PUSH.
+    pub(crate) fn push(&self, place: Place) -> Result<Change, Cause>
+        ensures { Plans S.Readable.cells self.now result (pushing place) }
+    {
+        let word = self.word_in::<SourcePart>(place)?;
+        self.push_word(word)
+    }
 
-// The word that is popped, and the processor then.
-fn pop_word<M: Readable>(memory: &M, processor: Processor) -> Result<(Number, Processor), Cause>
-    ensures { result ≡ popped (context processor (M.Readable.cells memory.now)) }
-{
-    let word = read_stack(memory, stack_top(processor))?;
-    Ok((word, stack_raised(processor)))
-}
+    // POP.
+    pub(crate) fn pop(&self, place: Place) -> Result<Change, Cause>
+        ensures { Plans S.Readable.cells self.now result (popping place) }
+    {
+        let (word, processor) = self.pop_word()?;
+        let popped = Planner { processor, ..*self };
+        popped.keep(place, word)
+    }
 
-// PUSH.
-pub(crate) fn push<S: Store>(store: &S, processor: Processor, place: Place) -> Result<Change, Cause>
-    ensures { outcome result (S.Readable.cells store.now) ≡ pushing place (context processor (S.Readable.cells store.now)) }
-{
-    let word = source_word(store, processor, place)?;
-    push_word(store, processor, word)
-}
+    // CALL.
+    pub(crate) fn call(&self, target: Address) -> Result<Change, Cause>
+        ensures { Plans S.Readable.cells self.now result (calling target) }
+    {
+        let done = self.push_word(Number::from(self.processor.pc))?;
+        Ok(Change {
+            processor: done.processor.with_pc(target),
+            ..done
+        })
+    }
 
-// POP.
-pub(crate) fn pop<S: Store>(store: &S, processor: Processor, place: Place) -> Result<Change, Cause>
-    ensures { outcome result (S.Readable.cells store.now) ≡ popping place (context processor (S.Readable.cells store.now)) }
-{
-    let (word, after) = pop_word(store, processor)?;
-    keep(store, after, place, word)
-}
+    // RET.
+    pub(crate) fn return_to(&self) -> Result<Change, Cause>
+        ensures { Plans S.Readable.cells self.now result returning }
+    {
+        let (target, after) = self.pop_word()?;
+        Ok(Change::from(after.with_pc(Address::from(target))))
+    }
 
-// CALL.
-pub(crate) fn call<S: Store>(
-    store: &S,
-    processor: Processor,
-    target: Address,
-) -> Result<Change, Cause>
-    ensures { outcome result (S.Readable.cells store.now) ≡ calling target (context processor (S.Readable.cells store.now)) }
-{
-    let done = push_word(store, processor, Number(processor.pc.0))?;
-    Ok(Change {
-        processor: with_pc(done.processor, target),
-        ..done
-    })
-}
-
-// RET.
-pub(crate) fn return_to<S: Store>(store: &S, processor: Processor) -> Result<Change, Cause>
-    ensures { outcome result (S.Readable.cells store.now) ≡ returning (context processor (S.Readable.cells store.now)) }
-{
-    let (word, after) = pop_word(store, processor)?;
-    Ok(Change {
-        processor: with_pc(after, Address(word.0)),
-        first: None,
-        second: None,
-    })
-}
-
-// IRET.
-pub(crate) fn resume<S: Store>(store: &S, processor: Processor) -> Result<Change, Cause>
-    ensures { outcome result (S.Readable.cells store.now) ≡ resuming (context processor (S.Readable.cells store.now)) }
-{
-    let (target, after) = pop_word(store, processor)?;
-    let (word, last) = pop_word(store, with_pc(after, Address(target.0)))?;
-    Ok(Change {
-        processor: with_status(last, Status::unpack(word)),
-        first: None,
-        second: None,
-    })
+    // IRET.
+    pub(crate) fn resume(&self) -> Result<Change, Cause>
+        ensures { Plans S.Readable.cells self.now result resuming }
+    {
+        let (target, after) = self.pop_word()?;
+        let returned = Planner {
+            processor: after.with_pc(Address::from(target)),
+            ..*self
+        };
+        let (word, last) = returned.pop_word()?;
+        Ok(Change::from(last.with_status(Status::unpack(word))))
+    }
 }
