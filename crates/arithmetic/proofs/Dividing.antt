@@ -1,6 +1,8 @@
 -- The quotient, the remainder and the words that stand for them. Assumes nothing.
-use Rattle.std.proofs.Common.{◌≡◌, ℕ, zero, suc, ◌+◌, ◌*◌, ◌/◌, ◌%◌, ◌^◌, ◌<◌, ◌≤◌, Bool, true, false, ℤ, pos, negsuc, ◌+ℤ◌, ◌*ℤ◌, neg_ℤ, nat_abs, Some, sym, refl, ap, ◌∙◌, subst, zero-mul, arith}
+use Rattle.std.proofs.Common.{◌≡◌, ℕ, zero, suc, ◌+◌, ◌-◌, ◌*◌, ◌/◌, ◌%◌, ◌^◌, ◌<◌, ◌≤◌, Bool, true, false, ◌&&◌, eqb, rules, ℤ, pos, negsuc, ◌+ℤ◌, ◌*ℤ◌, neg_ℤ, nat_abs, Some, sym, refl, ap, ◌∙◌, subst, zero-mul, arith}
 use lib.Signed.{le_z, quot_z, rem_z}
+use Rattle.std.specs.Bool.{FalseIff}
+use Rattle.std.specs.Int.{NotMinOverMinusOne, w32}
 use Rattle.std.proofs.lemmas.Nat.{div-add-mod', mod_below}
 use Rattle.std.proofs.lemmas.Int.{ints}
 use Rattle.std.proofs.lemmas.Bool.Decides.{nat_tests}
@@ -84,3 +86,15 @@ parts x b q r v h k e f g =
           let whole : signed q ≡ quot_z x (signed b) = ap signed e ∙ stands (quot_z x (signed b)) (sym g ∙ clear) in
           (λ i. whole i *ℤ signed b +ℤ rest i) ∙ makes_dividend x (signed b),
     )
+
+-- no word stands for the quotient just where the lowest number is divided by -1
+unfit : (a b : ℕ) → 0 < b → a < 2 ^ 32 → b < 2 ^ 32 → (eqb a (2 ^ 31) && eqb b (2 ^ 32 - 1)) ≡ outside (quot_z (signed a) (signed b))
+unfit a b p q r = search rules
+
+told : (a b : ℕ) (v : Bool) → 0 < b → a < 2 ^ 32 → b < 2 ^ 32 → FalseIff v (NotMinOverMinusOne w32 (signed a) (signed b)) → v ≡ (eqb a (2 ^ 31) && eqb b (2 ^ 32 - 1))
+told a b true p q r h = grind (arith, nat_tests)
+told a b false p q r h = grind (arith, nat_tests)
+
+-- the quotient does not fit a word just where the signed division says that it overflows
+pub overflows : (a b : ℕ) (v : Bool) → 0 < b → a < 2 ^ 32 → b < 2 ^ 32 → FalseIff v (NotMinOverMinusOne w32 (signed a) (signed b)) → v ≡ outside (quot_z (signed a) (signed b))
+overflows a b v p q r h = told a b v p q r h ∙ unfit a b p q r

@@ -1,12 +1,11 @@
 // The division, rounded toward zero.
-ghost use Rattle.std.specs.Prelude.{◌≡◌, ◌<◌};
-ghost use Rattle.quantity.specs.Integers.{outside, word};
+ghost use Rattle.std.specs.Prelude.{◌≡◌};
 ghost use Rattle.arithmetic.specs.Laws.{Divides};
 ghost use Rattle.arithmetic.specs.Marks.{Keeps, division_marks};
-ghost use Rattle.arithmetic.specs.Results.{divided, quotient_of, remainder_of};
+ghost use Rattle.arithmetic.specs.Results.{divided};
 
 use crate::status::Status;
-use crate::sums::follow;
+use crate::sums::signed_result;
 use quantity::Number;
 
 // What a division gives.
@@ -14,34 +13,6 @@ use quantity::Number;
 pub struct Division {
     pub quotient: Number,
     pub remainder: Number,
-}
-
-// The quotient does not fit a word: only -2^31 by -1.
-fn quotient_overflows(a: Number, b: Number) -> bool
-    requires { 0 < b.0 }
-    ensures { result ≡ outside (quotient_of a b) }
-{
-    a.0 == 0x8000_0000 && b.0 == 0xffff_ffff
-}
-
-// The word of the quotient.
-fn quotient_word(a: Number, b: Number) -> u32
-    requires { 0 < b.0 }
-    ensures { result ≡ word (quotient_of a b) }
-{
-    let dividend = a.0.cast_signed();
-    let divisor = b.0.cast_signed();
-    dividend.wrapping_div(divisor).cast_unsigned()
-}
-
-// The word of the remainder, which is 0 or has the dividend's sign.
-fn remainder_word(a: Number, b: Number) -> u32
-    requires { 0 < b.0 }
-    ensures { result ≡ word (remainder_of a b) }
-{
-    let dividend = a.0.cast_signed();
-    let divisor = b.0.cast_signed();
-    dividend.wrapping_rem(divisor).cast_unsigned()
 }
 
 // The quotient and the remainder of a by b. By 0 there are none, and only C is set.
@@ -59,12 +30,13 @@ pub fn divide(a: Number, b: Number, status: Status) -> (Option<Division>, Status
             },
         );
     }
-    let whole = quotient_word(a, b);
-    let rest = remainder_word(a, b);
+    let (dividend, divisor) = (a.0.cast_signed(), b.0.cast_signed());
+    let whole = dividend.overflowing_div(divisor);
+    let (quotient, after) = signed_result(status, whole, false);
+    let remainder = Number(dividend.wrapping_rem(divisor).cast_unsigned());
     let division = Division {
-        quotient: Number(whole),
-        remainder: Number(rest),
+        quotient,
+        remainder,
     };
-    let after = follow(status, whole, false, quotient_overflows(a, b));
     (Some(division), after)
 }

@@ -3,12 +3,11 @@ ghost use Rattle.std.specs.Prelude.{◌≡◌};
 ghost use Rattle.arithmetic.specs.Results.{logical};
 
 use crate::status::Status;
-use crate::sums::follow;
 use quantity::Number;
 
 // The word; C and V are cleared.
 pub(crate) fn clear(status: Status, word: u32) -> (Number, Status)
     ensures { result ≡ logical status word }
 {
-    (Number(word), follow(status, word, false, false))
+    status.with_result(word, false, false)
 }

@@ -3,7 +3,6 @@ ghost use Rattle.std.specs.Prelude.{◌≡◌};
 ghost use Rattle.arithmetic.specs.Results.{left_shifted, right_shifted, shifted_left, shifted_right};
 
 use crate::status::Status;
-use crate::sums::follow;
 use quantity::Number;
 
 // Times 2 to the count, and 0 from 32 on.
@@ -19,8 +18,7 @@ pub(crate) fn sal(a: Number, count: Number, status: Status) -> (Number, Status)
 {
     let word = left(a.0, count.0);
     let overflow = (a.0 >= 0x8000_0000) != (word >= 0x8000_0000);
-    let after = follow(status, word, status.carry, overflow);
-    (Number(word), after)
+    status.with_result(word, status.carry, overflow)
 }
 
 // Over 2 to the count, rounded down, and from 32 on as at 31.
@@ -35,6 +33,5 @@ pub(crate) fn sar(a: Number, count: Number, status: Status) -> (Number, Status)
     ensures { result ≡ right_shifted a count status }
 {
     let word = right(a.0, count.0);
-    let after = follow(status, word, status.carry, false);
-    (Number(word), after)
+    status.with_result(word, status.carry, false)
 }

@@ -1,6 +1,7 @@
 // The status bits and their word.
-ghost use Rattle.std.specs.Prelude.{◌≡◌, ◌%◌};
-ghost use Rattle.arithmetic.specs.StatusWord.{packed, unpacked, weighed};
+ghost use Rattle.std.specs.Prelude.{◌≡◌};
+ghost use Rattle.arithmetic.specs.Results.{following, number};
+ghost use Rattle.arithmetic.specs.StatusWord.{Packs, Unpacks, packed, weighed};
 
 use quantity::Number;
 
@@ -29,19 +30,35 @@ fn sum_of_weights(s: Status) -> u32
 }
 
 impl Status {
-    // The status word: Z, S, C, V and IE in bits 0 to 4, and zeros above.
-    pub fn pack(self) -> Number
-        ensures word { result ≡ packed self }
-        ensures restores { unpacked result ≡ self }
+    // A result, and the status after it: Z and S follow the word, C and V are given, and IE stays.
+    pub(crate) fn with_result(self, word: u32, carry: bool, overflow: bool) -> (Number, Status)
+        ensures { result ≡ (number word, following self word carry overflow) }
     {
-        Number(sum_of_weights(self))
+        let after = Status {
+            zero: word == 0,
+            sign: word >= 0x8000_0000,
+            carry,
+            overflow,
+            ..self
+        };
+        (Number(word), after)
     }
+}
 
-    // The status of a word; the bits above bit 4 are ignored.
-    pub fn unpack(word: Number) -> Status
-        ensures status { result ≡ unpacked word }
-        ensures keeps { (packed result).0 ≡ word.0 % 32 }
-    {
+// The status word: Z, S, C, V and IE in bits 0 to 4, and zeros above.
+impl From<Status> for Number {
+    ghost from_gives = { Packs };
+
+    fn from(status: Status) -> Number {
+        Number(sum_of_weights(status))
+    }
+}
+
+// The status of a word; the bits above bit 4 are ignored.
+impl From<Number> for Status {
+    ghost from_gives = { Unpacks };
+
+    fn from(word: Number) -> Status {
         Status {
             zero: word.0 % 2 == 1,
             sign: word.0 / 2 % 2 == 1,

@@ -46,7 +46,7 @@ impl<S: Store> Planner<'_, S> {
     fn interrupt(&self, index: InterruptIndex) -> Result<Change, Cause>
         ensures { Plans S.Readable.cells self.now result (interrupting index.value) }
     {
-        let once = self.push_word(self.processor.status.pack())?;
+        let once = self.push_word(Number::from(self.processor.status))?;
         let twice = self.push_second(once, Number::from(once.processor.pc))?;
         let memory = Pending {
             below: self.store,

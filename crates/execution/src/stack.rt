@@ -79,6 +79,6 @@ impl<'a, S: Store> Planner<'a, S> {
             ..*self
         };
         let (word, last) = returned.pop_word()?;
-        Ok(Change::from(last.with_status(Status::unpack(word))))
+        Ok(Change::from(last.with_status(Status::from(word))))
     }
 }

@@ -76,7 +76,7 @@ impl Processor {
     pub fn stack_top(&self) -> Address
         ensures { result ≡ stack_top self.now }
     {
-        Address(self.registers[STACK_POINTER].0)
+        Address::from(self.registers[STACK_POINTER])
     }
 
     // SP one word lower.

@@ -1,18 +1,21 @@
-use Rattle.std.proofs.Common.{◌^◌, ◌<◌, ap, ◌∙◌, rules}
-use Rattle.quantity.specs.Integers.{signed}
-use Rattle.arithmetic.proofs.Dividing.{parts}
+use Rattle.std.proofs.Common.{◌≡◌, ◌^◌, ◌<◌, ap, ◌∙◌, rules}
+use Rattle.quantity.specs.Integers.{outside, signed, word}
+use Rattle.arithmetic.proofs.Dividing.{overflows, parts}
 use Rattle.arithmetic.proofs.division.divide.Goals as goal
+use Rattle.arithmetic.specs.Results.{quotient_of, remainder_of}
 use Rattle.arithmetic.specs.declared.status.Status.{Status}
 
 pub returns : goal.returns
 returns c =
     let above : 0 < c.args.b.0 = search rules in
     let narrow : c.args.b.0 < 2 ^ 32 = search rules in
+    let whole : c.signed_result.result.0.0 ≡ word (quotient_of c.args.a c.args.b) = search rules in
+    let rest : c.cast_unsigned.result ≡ word (remainder_of c.args.a c.args.b) = search rules in
+    let over : c.signed_result.result.1.overflow ≡ outside (quotient_of c.args.a c.args.b) = search (rules, overflows) in
     record {
       result = search rules;
       divides =
-          parts (signed c.args.a.0) c.args.b.0 c.quotient_word-whole.result c.remainder_word-rest.result c.follow-after.result.overflow
-          above narrow c.quotient_word-whole.ensures c.remainder_word-rest.ensures
-          (ap (λ (t : Status). t.overflow) c.follow-after.ensures ∙ c.quotient_overflows.ensures);
-      marks = (tt, tt, tt, tt, ap (λ (t : Status). t.enabled) c.follow-after.ensures);
+          parts (signed c.args.a.0) c.args.b.0 c.signed_result.result.0.0 c.cast_unsigned.result c.signed_result.result.1.overflow
+          above narrow whole rest over;
+      marks = (tt, tt, tt, tt, search rules);
     }

@@ -1,6 +1,0 @@
-use Rattle.std.proofs.Common.{rules}
-use Rattle.arithmetic.proofs.Wrapping.{product_word}
-use Rattle.arithmetic.proofs.sums.product_word.Goals as goal
-
-pub returns : goal.returns
-returns c = search (rules, product_word)
