@@ -1,5 +1,5 @@
 -- A part of the processor that a command leaves as it was. Assumes nothing.
-use Rattle.std.proofs.Common.{◌≡◌, ℕ, ◌*◌, Bool, true, false, cond, ◌||◌, eqb, ◌≢◌, IfOk, Some, None, Ok, Err, Option, Result, refl, ◌∙◌, arith, get_or-set_other}
+use Rattle.std.proofs.Common.{◌≡◌, ℕ, ◌*◌, Bool, true, false, cond, ◌||◌, eqb, ◌≢◌, IfOk, Some, None, Ok, Err, Option, Result, refl, ap, ◌∙◌, arith, get_or-set_other}
 use Rattle.std.proofs.lemmas.Result.{IfOk-weaker}
 use Rattle.std.proofs.lemmas.Bool.Decides.{nat_tests}
 use Rattle.actions.specs.declared.action.Command.{Command}
@@ -32,7 +32,7 @@ or_left true b e = e
 or_left false b e = refl
 
 or_right : (a b : Bool) → (a || b) ≡ false → b ≡ false
-or_right true b e = let z : ◌≡◌ {A = ℕ} 0 1 = cc in absurd (omega arith)
+or_right true b e = absurd (cc)
 or_right false b e = e
 
 -- whatever comes of a sequence whose last part always makes P
@@ -91,67 +91,49 @@ module _ (X : Type 0) (f : Processor → X) (t : ℕ → Bool) (puts : (p : Proc
   popped_same : (s : Context) → t 15 ≡ false → IfOk (popped s) (λ r. f r.1 ≡ f s.processor)
   popped_same s e = then_made (λ r. f r.1 ≡ f s.processor) (at_stack (word_reading s.memory (stack_top s.processor))) _ (λ _. puts s.processor 15 _ e)
 
-  -- the commands that neither jump, call nor return
-  pub steady : (k : Command) (s : Context) → straight k ≡ true → changes t k ≡ false → IfOk (commanded k s) (Same s)
-  steady command.Pass s j e = refl
-  steady (command.Enable b) s j e = marks s.processor _
-  steady (command.Move d b) s j e = then_made (Same s) (source_word b s) _ (λ n. kept_same d n s e)
-  steady (command.Push d) s j e = then_made (Same s) (at_source (place_word d s)) _ (λ n. pushed_same n s e)
-  steady (command.Pop d) s j e =
+  -- PC does not matter
+  abbrev Jumps : Type 0
+  Jumps = (p : Processor) (a : Address) → f (with_pc p a) ≡ f p
+
+  branched_same : (b : Bool) (p : Processor) (a : Address) → Jumps → f (cond b (with_pc p a) p) ≡ f p
+  branched_same true p a j = j p a
+  branched_same false p a j = refl
+
+  interrupting_same : (i : ℕ) (s : Context) → Jumps → t 15 ≡ false → IfOk (interrupting i s) (Same s)
+  interrupting_same i s j e =
+      on_made (Same s) (Same s) (pushed (packed s.processor.status) s) _ (pushed_same (packed s.processor.status) s e)
+      (λ u h. on_made (Same u) (Same s) (pushed (number u.processor.pc.0) u) _ (pushed_same (number u.processor.pc.0) u e)
+      (λ w g. then_made (Same s) (at_vector (word_reading w.memory (address (4 * i)))) _ (λ n. j w.processor _ ∙ g ∙ h)))
+
+  -- where PC matters, the command is no jump, call or return
+  pub left : (k : Command) (s : Context) → (straight k ≡ false → Jumps) → changes t k ≡ false → IfOk (commanded k s) (Same s)
+  left command.Pass s j e = refl
+  left (command.Enable b) s j e = marks s.processor _
+  left (command.Move d b) s j e = then_made (Same s) (source_word b s) _ (λ n. kept_same d n s e)
+  left (command.Push d) s j e = then_made (Same s) (at_source (place_word d s)) _ (λ n. pushed_same n s e)
+  left (command.Pop d) s j e =
       on_made (λ r. f r.1 ≡ f s.processor) (Same s) (popped s) _ (popped_same s (or_left (t 15) (names t d) e))
       (λ r h. IfOk-weaker (kept d r.0 (turned r.1 s)) (Same (turned r.1 s)) (Same s) (λ u g. g ∙ h) (kept_same d r.0 (turned r.1 s) (or_right (t 15) (names t d) e)))
-  steady (command.Combine k d b) s j e =
+  left (command.Combine k d b) s j e =
       then_made (Same s) (source_word b s) _ (λ y. then_made (Same s) (destination_word d s) _ (λ x. resulting_same d _ s e))
-  steady (command.Divide d b) s j e =
+  left (command.Divide d b) s j e =
       then_made (Same s) (source_word b s) _
       (λ y. then_made (Same s) (destination_word d s) _
       (λ x. sharing_same d (divided x y s.processor.status).0 (divided x y s.processor.status).1 s (or_left (names t d) (t 0) e) (or_right (names t d) (t 0) e)))
-  steady (command.Alter k d) s j e = then_made (Same s) (destination_word d s) _ (λ x. resulting_same d _ s e)
-  steady (command.Compare k d b) s j e =
+  left (command.Alter k d) s j e = then_made (Same s) (destination_word d s) _ (λ x. resulting_same d _ s e)
+  left (command.Compare k d b) s j e =
       then_made (Same s) (source_word b s) _ (λ y. then_made (Same s) (destination_word d s) _ (λ x. marks s.processor _))
-  steady (command.Jump a) s j e = let z : ◌≡◌ {A = ℕ} 0 1 = cc in absurd (omega arith)
-  steady (command.Branch k d) s j e = let z : ◌≡◌ {A = ℕ} 0 1 = cc in absurd (omega arith)
-  steady (command.Call a) s j e = let z : ◌≡◌ {A = ℕ} 0 1 = cc in absurd (omega arith)
-  steady command.Return s j e = let z : ◌≡◌ {A = ℕ} 0 1 = cc in absurd (omega arith)
-  steady (command.Interrupt n) s j e = let z : ◌≡◌ {A = ℕ} 0 1 = cc in absurd (omega arith)
-  steady command.Resume s j e = let z : ◌≡◌ {A = ℕ} 0 1 = cc in absurd (omega arith)
-
--- the same where PC does not matter either
-module _ (X : Type 0) (f : Processor → X) (t : ℕ → Bool) (puts : (p : Processor) (i : ℕ) (n : Number) → t i ≡ false → f (with_word p i n) ≡ f p) (marks : (p : Processor) (s : Status) → f (with_status p s) ≡ f p) (jumps : (p : Processor) (a : Address) → f (with_pc p a) ≡ f p) where
-  abbrev Alike : Context → Context → Type 0
-  Alike s u = f u.processor ≡ f s.processor
-
-  branched_same : (b : Bool) (p : Processor) (a : Address) → f (cond b (with_pc p a) p) ≡ f p
-  branched_same true p a = jumps p a
-  branched_same false p a = refl
-
-  interrupting_same : (i : ℕ) (s : Context) → t 15 ≡ false → IfOk (interrupting i s) (Alike s)
-  interrupting_same i s e =
-      on_made (Alike s) (Alike s) (pushed (packed s.processor.status) s) _ (pushed_same X f t puts marks (packed s.processor.status) s e)
-      (λ u h. on_made (Alike u) (Alike s) (pushed (number u.processor.pc.0) u) _ (pushed_same X f t puts marks (number u.processor.pc.0) u e)
-      (λ w g. then_made (Alike s) (at_vector (word_reading w.memory (address (4 * i)))) _ (λ n. jumps w.processor _ ∙ g ∙ h)))
-
-  pub left : (k : Command) (s : Context) → changes t k ≡ false → IfOk (commanded k s) (Alike s)
-  left command.Pass s e = refl
-  left (command.Enable b) s e = marks s.processor _
-  left (command.Move d b) s e = steady X f t puts marks (command.Move d b) s refl e
-  left (command.Push d) s e = steady X f t puts marks (command.Push d) s refl e
-  left (command.Pop d) s e = steady X f t puts marks (command.Pop d) s refl e
-  left (command.Combine k d b) s e = steady X f t puts marks (command.Combine k d b) s refl e
-  left (command.Divide d b) s e = steady X f t puts marks (command.Divide d b) s refl e
-  left (command.Alter k d) s e = steady X f t puts marks (command.Alter k d) s refl e
-  left (command.Compare k d b) s e = steady X f t puts marks (command.Compare k d b) s refl e
-  left (command.Jump a) s e = jumps s.processor a
-  left (command.Branch k d) s e = branched_same (holds k s.processor.status) s.processor (displaced s.processor.pc d)
-  left (command.Call a) s e =
-      on_made (Alike s) (Alike s) (pushed (number s.processor.pc.0) s) _ (pushed_same X f t puts marks (number s.processor.pc.0) s e) (λ u h. jumps u.processor a ∙ h)
-  left command.Return s e =
-      on_made (λ r. f r.1 ≡ f s.processor) (Alike s) (popped s) _ (popped_same X f t puts marks s e) (λ r h. jumps r.1 _ ∙ h)
-  left (command.Interrupt n) s e = then_made (Alike s) (blamed cause.Index (indexing n.0)) _ (λ i. interrupting_same i.value s e)
-  left command.Resume s e =
-      on_made (λ r. f r.1 ≡ f s.processor) (Alike s) (popped s) _ (popped_same X f t puts marks s e)
-      (λ r h. on_made (λ q. f q.1 ≡ f (with_pc r.1 (address r.0.0))) (Alike s) (popped (gone r.0 (turned r.1 s))) _ (popped_same X f t puts marks (gone r.0 (turned r.1 s)) e)
-      (λ q g. marks q.1 _ ∙ g ∙ jumps r.1 _ ∙ h))
+  left (command.Jump a) s j e = j refl s.processor a
+  left (command.Branch k d) s j e = branched_same (holds k s.processor.status) s.processor (displaced s.processor.pc d) (j refl)
+  left (command.Call a) s j e =
+      on_made (Same s) (Same s) (pushed (number s.processor.pc.0) s) _ (pushed_same (number s.processor.pc.0) s e) (λ u h. j refl u.processor a ∙ h)
+  left command.Return s j e =
+      on_made (λ r. f r.1 ≡ f s.processor) (Same s) (popped s) _ (popped_same s e) (λ r h. j refl r.1 _ ∙ h)
+  left (command.Interrupt n) s j e = then_made (Same s) (blamed cause.Index (indexing n.0)) _ (λ i. interrupting_same i.value s (j refl) e)
+  left command.Resume s j e =
+      on_made (λ r. f r.1 ≡ f s.processor) (Same s) (popped s) _ (popped_same s e)
+      (λ r h. on_made (λ q. f q.1 ≡ f (with_pc r.1 (address r.0.0))) (Same s) (popped (gone r.0 (turned r.1 s))) _ (popped_same (gone r.0 (turned r.1 s)) e)
+      (λ q g. marks q.1 _ ∙ g ∙ j refl r.1 _ ∙ h))
 
 apart : (i j : ℕ) → eqb i j ≡ false → i ≢ j
 apart i j e = grind (arith, nat_tests)
@@ -161,22 +143,21 @@ other_register i j p n e = let ne : i ≢ j = apart i j e in rw get_or-set_other
 
 -- a register that the command cannot change is as it was
 pub registers_stay : (k : Command) (s : Context) (i : ℕ) → changes (eqb i) k ≡ false → IfOk (commanded k s) (λ u. held u.processor i ≡ held s.processor i)
-registers_stay k s i e = left Number (λ p. held p i) (eqb i) (λ p j n h. other_register i j p n h) (λ p u. refl) (λ p a. refl) k s e
+registers_stay k s i e = left Number (λ p. held p i) (eqb i) (λ p j n h. other_register i j p n h) (λ p u. refl) k s (λ _ p a. refl) e
+
+none_named : (d : Place) → names (λ _. false) d ≡ false
+none_named (place.Register r) = refl
+none_named (place.Memory m) = refl
 
 none_changed : (k : Command) → changes (λ _. false) k ≡ false
 none_changed command.Pass = refl
 none_changed (command.Enable e) = refl
-none_changed (command.Move (place.Register r) b) = refl
-none_changed (command.Move (place.Memory m) b) = refl
+none_changed (command.Move d b) = none_named d
 none_changed (command.Push d) = refl
-none_changed (command.Pop (place.Register r)) = refl
-none_changed (command.Pop (place.Memory m)) = refl
-none_changed (command.Combine k (place.Register r) b) = refl
-none_changed (command.Combine k (place.Memory m) b) = refl
-none_changed (command.Divide (place.Register r) b) = refl
-none_changed (command.Divide (place.Memory m) b) = refl
-none_changed (command.Alter k (place.Register r)) = refl
-none_changed (command.Alter k (place.Memory m)) = refl
+none_changed (command.Pop d) = none_named d
+none_changed (command.Combine k d b) = none_named d
+none_changed (command.Divide d b) = ap (λ t. t || false) (none_named d)
+none_changed (command.Alter k d) = none_named d
 none_changed (command.Compare k d b) = refl
 none_changed (command.Jump a) = refl
 none_changed (command.Branch k d) = refl
@@ -186,11 +167,11 @@ none_changed (command.Interrupt n) = refl
 none_changed command.Resume = refl
 
 goes_on : (k : Command) (s : Context) → straight k ≡ true → IfOk (commanded k s) (λ u. u.processor.pc ≡ s.processor.pc)
-goes_on k s j = steady Address (λ p. p.pc) (λ _. false) (λ p i n e. refl) (λ p u. refl) k s j (none_changed k)
+goes_on k s j = left Address (λ p. p.pc) (λ _. false) (λ p i n e. refl) (λ p u. refl) k s (λ h. absurd (cc (j, h))) (none_changed k)
 
 branch_goes : (b : Bool) (p : Processor) (a : Address) → (b ≡ true → (cond b (with_pc p a) p).pc ≡ a) × (b ≡ false → (cond b (with_pc p a) p).pc ≡ p.pc)
-branch_goes true p a = ((λ e. refl), (λ e. let z : ◌≡◌ {A = ℕ} 0 1 = cc in absurd (omega arith)))
-branch_goes false p a = ((λ e. let z : ◌≡◌ {A = ℕ} 0 1 = cc in absurd (omega arith)), (λ e. refl))
+branch_goes true p a = ((λ e. refl), (λ e. absurd (cc)))
+branch_goes false p a = ((λ e. absurd (cc)), (λ e. refl))
 
 -- where the command goes on
 pub goes_to : (k : Command) (s : Context) → IfOk (commanded k s) (λ u. GoesTo k s.processor.status s.processor.pc u.processor.pc)

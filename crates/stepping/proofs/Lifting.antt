@@ -1,5 +1,5 @@
 -- The laws of commands, lifted to whole instructions. Assumes nothing.
-use Rattle.std.proofs.Common.{◌≡◌, ℕ, false, eqb, IfOk, Some, None, Ok, Err, Option, Result, sym, refl, subst, arith}
+use Rattle.std.proofs.Common.{◌≡◌, ℕ, false, eqb, IfOk, OnOk, Some, None, Ok, Err, Option, Result, sym, refl, subst}
 use Rattle.actions.specs.Actions.{action}
 use Rattle.actions.specs.declared.action.Action.{Action}
 use Rattle.actions.specs.declared.action.Action.TheVariants.{Inner, Input, Output}
@@ -9,6 +9,7 @@ use Rattle.execution.specs.Contexts.{Context, blamed, context}
 use Rattle.execution.specs.Executions.{beside, commanded, executed, next_address, performed_if}
 use Rattle.execution.specs.Ports.{giving, port, taking}
 use Rattle.processor.specs.Registers.{with_pc}
+use Rattle.journal.specs.declared.entry.Entry.{Entry}
 use Rattle.ports.specs.Banks.{getting}
 use Rattle.processor.specs.Processors.{held}
 use Rattle.processor.specs.Views.{View, view}
@@ -21,7 +22,7 @@ use Rattle.words.specs.Words.{and_then}
 use Rattle.stepping.proofs.Framing.{goes_to, other_register, registers_stay, then_made}
 use Rattle.stepping.proofs.Marking.{status_follows}
 use Rattle.stepping.specs.Laws.{ActionGoes, ActionStatus, RegistersStay, changes}
-use Rattle.stepping.specs.Steps.{settled, taken}
+use Rattle.stepping.specs.Steps.{Steps, settled, taken}
 
 beside_made : (P : Processor → Type 0) (ws : ℕ → Option ℕ) (r : Result Context Cause) → IfOk r (λ u. P u.processor) → IfOk (beside ws r) (λ w. P w.processor)
 beside_made P ws (Ok u) h = h
@@ -100,7 +101,10 @@ pub goes : (i : Instruction) (v : View) → IfOk (executed i v) (λ w. ActionGoe
 goes i v = instruction_made Goes goes_there i v
 
 -- what holds of the outcome holds of the processor that is left
-pub settled_made : {X : Type 0} (P : Processor → Type 0) (r : Result X StepFault) (x : Result View StepFault) (v w : View) → taken r ≡ taken x → w ≡ settled x v → IfOk x (λ u. P u.processor) → IfOk r (λ _. P w.processor)
-settled_made P (Err f) x v w a b h = tt
-settled_made P (Ok e) (Ok u) v w a b h = subst (λ y. P y.processor) (sym b) h
-settled_made P (Ok e) (Err f) v w a b h = let z : ◌≡◌ {A = ℕ} 0 1 = cc in absurd (omega arith)
+taken_made : (P : Processor → Type 0) (r : Result Entry StepFault) (x : Result View StepFault) (v w : View) → taken r ≡ taken x → w ≡ settled x v → IfOk x (λ u. P u.processor) → OnOk r (P w.processor)
+taken_made P (Err f) x v w a b h = tt
+taken_made P (Ok e) (Ok u) v w a b h = subst (λ y. P y.processor) (sym b) h
+taken_made P (Ok e) (Err f) v w a b h = absurd (cc)
+
+pub stepped_made : (P : Processor → Type 0) {x : Result View StepFault} {r : Result Entry StepFault} {v w : View} → Steps x r v w → IfOk x (λ u. P u.processor) → OnOk r (P w.processor)
+stepped_made P {x} {r} {v} {w} s h = taken_made P r x v w s.answers s.after h

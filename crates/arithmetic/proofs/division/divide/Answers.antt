@@ -1,9 +1,8 @@
-use Rattle.std.proofs.Common.{◌≡◌, ◌^◌, ◌<◌, ap, ◌∙◌, rules}
+use Rattle.std.proofs.Common.{◌≡◌, ◌^◌, ◌<◌, rules}
 use Rattle.quantity.specs.Integers.{outside, signed, word}
 use Rattle.arithmetic.proofs.Dividing.{overflows, parts}
 use Rattle.arithmetic.proofs.division.divide.Goals as goal
 use Rattle.arithmetic.specs.Results.{quotient_of, remainder_of}
-use Rattle.arithmetic.specs.declared.status.Status.{Status}
 
 pub returns : goal.returns
 returns c =

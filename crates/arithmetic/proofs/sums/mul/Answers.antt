@@ -1,4 +1,4 @@
-use Rattle.std.proofs.Common.{◌≡◌, ◌^◌, ◌<◌, ◌*ℤ◌, ap, ◌∙◌, rules, of_z}
+use Rattle.std.proofs.Common.{◌≡◌, ◌*ℤ◌, ap, ◌∙◌, rules, of_z}
 use Rattle.std.specs.Int.{w32}
 use Rattle.quantity.specs.Integers.{outside, signed, word}
 use Rattle.arithmetic.proofs.Wrapping.{product_bits}
