@@ -1,4 +1,5 @@
 // Taking an instruction apart.
+// Functions to an Option, and no TryFrom: no caller would read which mode an operand has instead.
 ghost use Rattle.std.specs.Prelude.{◌≡◌, Some};
 ghost use Rattle.std.specs.Option.{option_zip};
 ghost use Rattle.actions.specs.Actions.{action, action_of, altering, any_source, branching, combining, comparing, displacement_of, inward_of, memory_of, number_of, only, outward_of, pair_of, place_of, plain_source, register_of, source_for, with_none, with_one};
@@ -161,6 +162,7 @@ impl Operands {
         Some((memory_operand(a)?, register_operand(b)?))
     }
 
+    // This and the next three stay four: a closure at each of their arms below would be no plainer.
     fn combine(self, operation: BinaryOperation) -> Option<Action>
         ensures { result ≡ combining operation self.first self.second }
     {
@@ -188,6 +190,7 @@ impl Operands {
     }
 
     // What the operation does with these operands, where it takes them.
+    // A match, and no table of closures: an operation is data of an instruction.
     fn taken_by(self, operation: Operation) -> Option<Action>
         ensures { result ≡ action_of operation self.first self.second }
     {

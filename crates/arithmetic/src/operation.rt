@@ -41,6 +41,7 @@ pub enum UnaryOperation {
 
 impl BinaryOperation {
     // The result of a, the destination's word, and b, the source's; for a shift b is the count.
+    // A match, and no table of closures: an operation is data of an instruction.
     pub fn apply(self, a: Number, b: Number, status: Status) -> (Number, Status)
         ensures result { result ≡ combined self a b status }
         ensures complement { SubtractionAddsComplement }

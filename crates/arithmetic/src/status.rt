@@ -59,12 +59,13 @@ impl From<Number> for Status {
     ghost from_gives = { Unpacks };
 
     fn from(word: Number) -> Status {
+        let is_set = |weight: u32| word.0 / weight % 2 == 1;
         Status {
-            zero: word.0 % 2 == 1,
-            sign: word.0 / 2 % 2 == 1,
-            carry: word.0 / 4 % 2 == 1,
-            overflow: word.0 / 8 % 2 == 1,
-            enabled: word.0 / 16 % 2 == 1,
+            zero: is_set(1),
+            sign: is_set(2),
+            carry: is_set(4),
+            overflow: is_set(8),
+            enabled: is_set(16),
         }
     }
 }

@@ -1,4 +1,5 @@
 // Sums, differences and products.
+// Two words and a status stay three parameters: a struct would be made only to be taken apart.
 ghost use Rattle.std.specs.Prelude.{◌≡◌};
 ghost use Rattle.std.specs.Int.{cast_unsigned, w32};
 ghost use Rattle.arithmetic.specs.Results.{added, following, multiplied, number, subtracted};

@@ -2,17 +2,10 @@
 ghost use Rattle.std.specs.Prelude.{◌≡◌, length};
 ghost use Rattle.arithmetic.specs.Worked.{All, Worked, examples};
 
-// How many results there are.
-fn result_count() -> usize
-    ensures { result ≡ length examples }
-{
-    3
-}
-
 // How many results are proved of the definitions.
 pub fn worked_results() -> usize
     ensures count { result ≡ length examples }
     ensures proved { All Worked examples }
 {
-    result_count()
+    3
 }

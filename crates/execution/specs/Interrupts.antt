@@ -1,8 +1,8 @@
 -- INT and the delivery of an interrupt. Assumes nothing.
 use Rattle.std.specs.Prelude.{ℕ, ◌*◌, None, Ok, Result}
+use Rattle.arithmetic.specs.Results.{number}
 use Rattle.arithmetic.specs.StatusWord.{packed}
 use Rattle.processor.specs.Interrupts.{indexing}
-use Rattle.processor.specs.Processors.{number}
 use Rattle.processor.specs.declared.fault.Cause.{Cause}
 use Rattle.processor.specs.declared.fault.Cause.TheVariants as cause
 use Rattle.processor.specs.declared.state.Processor.{Processor}

@@ -1,8 +1,8 @@
 -- The stack grows toward lower addresses; SP is the address of its top. Assumes nothing.
 use Rattle.std.specs.Prelude.{Ok, Result}
+use Rattle.arithmetic.specs.Results.{number}
 use Rattle.actions.specs.declared.action.Place.{Place}
 use Rattle.arithmetic.specs.StatusWord.{unpacked}
-use Rattle.processor.specs.Processors.{number}
 use Rattle.processor.specs.declared.fault.Cause.{Cause}
 use Rattle.processor.specs.declared.state.Processor.{Processor}
 use Rattle.quantity.specs.Sums.{address}

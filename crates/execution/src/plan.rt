@@ -19,7 +19,7 @@ use processor::state::Processor;
 use quantity::Address;
 
 impl<S: Store> Planner<'_, S> {
-    // What a command does.
+    // What a command does. A match, and no table of closures: commands differ in what they take.
     fn command(&self, command: Command) -> Result<Change, Cause>
         ensures { Plans S.Readable.cells self.now result (commanded command) }
     {
@@ -85,7 +85,7 @@ pub fn plan<S: Store, P: Ports>(
     store: &S,
     ports: &P,
 ) -> Result<Effect, StepFault>
-    ensures { effected result (view processor (S.Readable.cells store.now) (P.Ports.words ports.now)) ≡ executed instruction.now (view processor (S.Readable.cells store.now) (P.Ports.words ports.now)) }
+    ensures { let before = view processor (S.Readable.cells store.now) (P.Ports.words ports.now) in effected result before ≡ executed instruction.now before }
 {
     let planner = Planner {
         store,
@@ -106,7 +106,7 @@ pub fn plan_delivery<S: Store, P: Ports>(
     store: &S,
     ports: &P,
 ) -> Result<Effect, StepFault>
-    ensures { effected result (view processor (S.Readable.cells store.now) (P.Ports.words ports.now)) ≡ delivered index.value (view processor (S.Readable.cells store.now) (P.Ports.words ports.now)) }
+    ensures { let before = view processor (S.Readable.cells store.now) (P.Ports.words ports.now) in effected result before ≡ delivered index.value before }
 {
     let planner = Planner { store, processor };
     planner

@@ -1,14 +1,12 @@
 -- What a processor holds. Assumes nothing.
 use Rattle.std.specs.Prelude.{ℕ, false, cond, replicate, None, Option, slice_index_or}
+use Rattle.arithmetic.specs.Results.{number}
 use Rattle.arithmetic.specs.declared.status.Status.{Status}
 use Rattle.operands.specs.declared.register.Register.{Register}
 use Rattle.processor.specs.declared.interrupt.InterruptIndex.{InterruptIndex}
 use Rattle.processor.specs.declared.state.Processor.{Processor}
 use Rattle.quantity.specs.declared.Address.{Address}
 use Rattle.quantity.specs.declared.Number.{Number}
-
-abbrev pub number : ℕ → Number
-number n = record { 0 = n }
 
 abbrev pub clear : Status
 clear = record { zero = false; sign = false; carry = false; overflow = false; enabled = false }

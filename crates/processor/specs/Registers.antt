@@ -1,8 +1,9 @@
 -- A processor after a small change. Assumes nothing.
 use Rattle.std.specs.Prelude.{ℕ, ◌+◌, ◌-◌, ◌%◌, ◌^◌, slice_set}
+use Rattle.arithmetic.specs.Results.{number}
 use Rattle.arithmetic.specs.declared.status.Status.{Status}
 use Rattle.operands.specs.declared.register.Register.{Register}
-use Rattle.processor.specs.Processors.{held, number}
+use Rattle.processor.specs.Processors.{held}
 use Rattle.processor.specs.declared.state.Processor.{Processor}
 use Rattle.quantity.specs.Sums.{address}
 use Rattle.quantity.specs.declared.Address.{Address}
@@ -25,10 +26,14 @@ with_status p s = record { registers = p.registers; pc = p.pc; status = s; waiti
 abbrev pub stack_top : Processor → Address
 stack_top p = address (held p 15).0
 
+-- SP moves by k, wrapping at 2^32
+abbrev pub stack_moved : Processor → ℕ → Processor
+stack_moved p k = with_word p 15 (number (((held p 15).0 + k) % 2 ^ 32))
+
 -- SP falls by 4
 abbrev pub lowered : Processor → Processor
-lowered p = with_word p 15 (number (((held p 15).0 + (2 ^ 32 - 4)) % 2 ^ 32))
+lowered p = stack_moved p (2 ^ 32 - 4)
 
 -- SP rises by 4
 abbrev pub raised : Processor → Processor
-raised p = with_word p 15 (number (((held p 15).0 + 4) % 2 ^ 32))
+raised p = stack_moved p 4

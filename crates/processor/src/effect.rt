@@ -6,6 +6,7 @@ use crate::state::Processor;
 use quantity::{Address, Number, Port};
 
 // A word that is to be stored.
+// Not one type with PortWrite over the place: the fields' names say what each is.
 #[derive(Clone, Copy, PartialEq, Eq, Debug)]
 pub struct StoreWrite {
     pub at: Address,

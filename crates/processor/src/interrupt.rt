@@ -4,6 +4,7 @@ ghost use Rattle.std.specs.Prelude.{T, nat_lt};
 pub mod making;
 
 // The index of an interrupt.
+// Not one type with Register over its bound: what is done with the two has nothing in common.
 #[derive(Clone, Copy, PartialEq, Eq, Debug)]
 pub struct InterruptIndex {
     value: u8,

@@ -1,7 +1,7 @@
 // What a processor holds.
 ghost use Rattle.std.specs.Prelude.{◌≡◌};
 ghost use Rattle.processor.specs.Processors.{blank, due, register_word};
-ghost use Rattle.processor.specs.Registers.{lowered, raised, stack_top, with_pc, with_register, with_status};
+ghost use Rattle.processor.specs.Registers.{lowered, raised, stack_moved, stack_top, with_pc, with_register, with_status};
 
 use crate::interrupt::InterruptIndex;
 use arithmetic::status::Status;
@@ -20,6 +20,9 @@ pub struct Processor {
 
 // SP is R15.
 const STACK_POINTER: usize = 15;
+
+// How many bytes a word takes on the stack.
+const WORD_LENGTH: u32 = 4;
 
 impl Processor {
     // All registers and bits 0, nothing waiting, and PC at an address.
@@ -79,21 +82,26 @@ impl Processor {
         Address::from(self.registers[STACK_POINTER])
     }
 
-    // SP one word lower.
-    pub fn stack_lowered(mut self) -> Processor
-        ensures { result ≡ lowered self }
+    // SP moved by a count of bytes, wrapping at 2^32.
+    fn stack_moved(mut self, count: u32) -> Processor
+        ensures { result ≡ stack_moved self count }
     {
         let pointer = &mut self.registers[STACK_POINTER];
-        *pointer = Number(pointer.0.wrapping_sub(4));
+        *pointer = Number(pointer.0.wrapping_add(count));
         self
     }
 
+    // SP one word lower.
+    pub fn stack_lowered(self) -> Processor
+        ensures { result ≡ lowered self }
+    {
+        self.stack_moved(WORD_LENGTH.wrapping_neg())
+    }
+
     // SP one word higher.
-    pub fn stack_raised(mut self) -> Processor
+    pub fn stack_raised(self) -> Processor
         ensures { result ≡ raised self }
     {
-        let pointer = &mut self.registers[STACK_POINTER];
-        *pointer = Number(pointer.0.wrapping_add(4));
-        self
+        self.stack_moved(WORD_LENGTH)
     }
 }

@@ -1,12 +1,12 @@
 -- A part of the processor that a command leaves as it was. Assumes nothing.
 use Rattle.std.proofs.Common.{◌≡◌, ℕ, ◌*◌, Bool, true, false, cond, ◌||◌, eqb, ◌≢◌, IfOk, Some, None, Ok, Err, Option, Result, refl, ap, ◌∙◌, arith, get_or-set_other}
 use Rattle.std.proofs.lemmas.Result.{IfOk-weaker}
-use Rattle.std.proofs.lemmas.Bool.Decides.{nat_tests}
+use Rattle.std.proofs.lemmas.Bool.{eqb-false}
 use Rattle.actions.specs.declared.action.Command.{Command}
 use Rattle.actions.specs.declared.action.Command.TheVariants as command
 use Rattle.actions.specs.declared.action.Place.{Place}
 use Rattle.actions.specs.declared.action.Place.TheVariants as place
-use Rattle.arithmetic.specs.Results.{divided}
+use Rattle.arithmetic.specs.Results.{divided, number}
 use Rattle.arithmetic.specs.StatusWord.{packed}
 use Rattle.arithmetic.specs.declared.division.Division.{Division}
 use Rattle.arithmetic.specs.declared.status.Status.{Status}
@@ -18,7 +18,7 @@ use Rattle.execution.specs.Jumps.{holds}
 use Rattle.processor.specs.Registers.{lowered, stack_top, with_pc, with_status, with_word}
 use Rattle.execution.specs.Stack.{gone, popped, pushed}
 use Rattle.processor.specs.Interrupts.{indexing}
-use Rattle.processor.specs.Processors.{held, number}
+use Rattle.processor.specs.Processors.{held}
 use Rattle.processor.specs.declared.fault.Cause.TheVariants as cause
 use Rattle.processor.specs.declared.state.Processor.{Processor}
 use Rattle.quantity.specs.Sums.{address, displaced}
@@ -135,11 +135,8 @@ module _ (X : Type 0) (f : Processor → X) (t : ℕ → Bool) (puts : (p : Proc
       (λ r h. on_made (λ q. f q.1 ≡ f (with_pc r.1 (address r.0.0))) (Same s) (popped (gone r.0 (turned r.1 s))) _ (popped_same (gone r.0 (turned r.1 s)) e)
       (λ q g. marks q.1 _ ∙ g ∙ j refl r.1 _ ∙ h))
 
-apart : (i j : ℕ) → eqb i j ≡ false → i ≢ j
-apart i j e = grind (arith, nat_tests)
-
 pub other_register : (i j : ℕ) (p : Processor) (n : Number) → eqb i j ≡ false → held (with_word p j n) i ≡ held p i
-other_register i j p n e = let ne : i ≢ j = apart i j e in rw get_or-set_other
+other_register i j p n e = let ne : i ≢ j = eqb-false i j e in rw get_or-set_other
 
 -- a register that the command cannot change is as it was
 pub registers_stay : (k : Command) (s : Context) (i : ℕ) → changes (eqb i) k ≡ false → IfOk (commanded k s) (λ u. held u.processor i ≡ held s.processor i)

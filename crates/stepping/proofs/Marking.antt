@@ -7,7 +7,7 @@ use Rattle.actions.specs.declared.action.Place.{Place}
 use Rattle.actions.specs.declared.action.Place.TheVariants as place
 use Rattle.arithmetic.proofs.Marking.{altered_keeps, combined_keeps, compared_keeps, divided_keeps}
 use Rattle.arithmetic.specs.Marks.{Keeps, binary_marks, division_marks, unary_marks}
-use Rattle.arithmetic.specs.Results.{altered, combined, divided}
+use Rattle.arithmetic.specs.Results.{altered, combined, divided, number}
 use Rattle.arithmetic.specs.StatusWord.{packed}
 use Rattle.arithmetic.specs.declared.division.Division.{Division}
 use Rattle.arithmetic.specs.declared.status.Status.{Status}
@@ -19,7 +19,6 @@ use Rattle.execution.specs.Jumps.{holds}
 use Rattle.processor.specs.Registers.{lowered, stack_top, with_pc}
 use Rattle.execution.specs.Stack.{gone, popped, pushed}
 use Rattle.processor.specs.Interrupts.{indexing}
-use Rattle.processor.specs.Processors.{number}
 use Rattle.processor.specs.declared.fault.Cause.TheVariants as cause
 use Rattle.processor.specs.declared.state.Processor.{Processor}
 use Rattle.quantity.specs.Sums.{address, displaced}

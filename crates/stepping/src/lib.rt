@@ -1,5 +1,5 @@
-// One instruction done: planned, and then committed. The processor, the store and the bank are passed
-// apart, since callers hold them apart: a struct of the three borrows would only be made at each call.
+// One instruction done: planned, and then committed.
+// The processor, the store and the bank stay apart, as callers hold them: no struct of three borrows.
 #![tactic(auto)]
 
 ghost use Rattle.std.specs.Prelude.{OnOk};

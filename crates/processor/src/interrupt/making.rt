@@ -18,6 +18,7 @@ impl InterruptIndex {
         }
     }
 
+    // The index as a number: a method, as `Register::index` is, since u8::from(index) would say less.
     pub fn value(self) -> u8
         ensures { result ≡ self.value }
     {
