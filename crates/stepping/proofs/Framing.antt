@@ -1,5 +1,5 @@
 -- A part of the processor that a command leaves as it was. Assumes nothing.
-use Rattle.std.proofs.Common.{◌≡◌, ℕ, ◌*◌, Bool, true, false, cond, ◌||◌, eqb, ◌≢◌, IfOk, Some, None, Ok, Err, Option, Result, refl, ap, ◌∙◌, arith, get_or-set_other}
+use Rattle.std.proofs.Common.{◌≡◌, ℕ, ◌*◌, Bool, true, false, cond, ◌||◌, eqb, ◌≢◌, IfOk, Some, None, Ok, Err, Option, Result, refl, ap, ◌∙◌, get_or-set_other}
 use Rattle.std.proofs.lemmas.Result.{IfOk-weaker}
 use Rattle.std.proofs.lemmas.Bool.{eqb-false}
 use Rattle.actions.specs.declared.action.Command.{Command}
