@@ -1,6 +1,6 @@
 -- The legal pairings of an operation with the modes of its operands. Assumes nothing.
-use Rattle.std.specs.Prelude.{Bool, cond, List, [], ◌∷◌, map, Some, None, Option}
-use Rattle.std.specs.List.{flat_map}
+use Rattle.std.specs.Prelude.{Bool, List, ◌∷◌, map, Some, None, Option}
+use Rattle.std.specs.List.{filter, flat_map}
 use Rattle.operands.specs.Groups.{grouped}
 use Rattle.operands.specs.Modes.{modes}
 use Rattle.operands.specs.declared.mode.Mode.{Mode}
@@ -23,10 +23,6 @@ perhaps = None ∷ map Some modes
 abbrev every_pairing : List Pairing
 every_pairing = flat_map (λ o. flat_map (λ a. map (λ b. record { operation = o; first = a; second = b }) perhaps) perhaps) operations
 
-abbrev kept : {X : Type 0} → (X → Bool) → List X → List X
-kept t [] = []
-kept t (x ∷ xs) = cond (t x) (x ∷ kept t xs) (kept t xs)
-
 -- the legal pairings of an operation with its modes
 abbrev pub legal_pairings : List Pairing
-legal_pairings = kept legal_pairing every_pairing
+legal_pairings = filter legal_pairing every_pairing
