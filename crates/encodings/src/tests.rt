@@ -39,47 +39,38 @@ fn pair(operation: Operation, first: Operand, second: Operand) -> Result<Instruc
 #[test]
 fn encodings_agree(rt: HostRuntime) -> Result<(), Fail> {
     let target = Operand::Immediate(Number(0x1FF0_0030));
-    agrees(
-        &rt,
-        &[0x40, 0x00, 0x30, 0x00, 0xF0, 0x1F],
-        single(Operation::Jmp, target)?,
-    )?;
-    agrees(
-        &rt,
-        &[0x47, 0x00, 0x30, 0x00, 0xF0, 0x1F],
-        single(Operation::Call, target)?,
-    )?;
     let back = Operand::PcRelative(Displacement(-132));
-    agrees(
-        &rt,
-        &[0x42, 0x60, 0x7C, 0xFF],
-        single(Operation::Jne, back)?,
-    )?;
     let ahead = Operand::PcRelative(Displacement(132));
-    agrees(
-        &rt,
-        &[0x42, 0x60, 0x84, 0x00],
-        single(Operation::Jne, ahead)?,
-    )?;
     let direct = Operand::Direct(Address(0x0012_005B));
-    agrees(
-        &rt,
-        &[0x34, 0x20, 0x5B, 0x00, 0x12, 0x00],
-        single(Operation::Not, direct)?,
-    )?;
-    agrees(
-        &rt,
-        &[0x25, 0x34],
-        single(Operation::Dec, Operand::Indirect(Register::new(4)))?,
-    )?;
-    agrees(&rt, &[0x48], Instruction::new(Operation::Ret, None, None)?)?;
+    let pointed = Operand::Indirect(Register::new(4));
     let slot = Operand::Relative(Register::new(4), Displacement(32));
     let hundred = Operand::Immediate(Number(100));
-    agrees(
-        &rt,
-        &[0x10, 0x44, 0x20, 0x00, 0x00, 0x64, 0x00, 0x00, 0x00],
-        pair(Operation::Mov, slot, hundred)?,
-    )
+    let encodings: [(&[u8], Instruction); 8] = [
+        (
+            &[0x40, 0x00, 0x30, 0x00, 0xF0, 0x1F],
+            single(Operation::Jmp, target)?,
+        ),
+        (
+            &[0x47, 0x00, 0x30, 0x00, 0xF0, 0x1F],
+            single(Operation::Call, target)?,
+        ),
+        (&[0x42, 0x60, 0x7C, 0xFF], single(Operation::Jne, back)?),
+        (&[0x42, 0x60, 0x84, 0x00], single(Operation::Jne, ahead)?),
+        (
+            &[0x34, 0x20, 0x5B, 0x00, 0x12, 0x00],
+            single(Operation::Not, direct)?,
+        ),
+        (&[0x25, 0x34], single(Operation::Dec, pointed)?),
+        (&[0x48], Instruction::new(Operation::Ret, None, None)?),
+        (
+            &[0x10, 0x44, 0x20, 0x00, 0x00, 0x64, 0x00, 0x00, 0x00],
+            pair(Operation::Mov, slot, hundred)?,
+        ),
+    ];
+    for (bytes, expected) in encodings {
+        agrees(&rt, bytes, expected)?;
+    }
+    Ok(())
 }
 
 // The reading of these bytes is refused with this number at this place, and the place of the
@@ -107,23 +98,24 @@ fn refuses<S: Source + Drop>(
 
 #[test]
 fn refusals_come_at_the_first_fault(rt: HostRuntime) -> Result<(), Fail> {
-    refuses(&rt, ByteString(&[0x42, 0x60, 0x84]), 1, 3)?;
-    refuses(&rt, ByteString(&[]), 1, 0)?;
-    refuses(&rt, ByteString(&[0x10, 0x11]), 1, 2)?;
-    refuses(&rt, ByteString(&[0x03]), 2, 0)?;
-    refuses(&rt, ByteString(&[0x24, 0x70]), 3, 1)?;
-    refuses(&rt, ByteString(&[0x11, 0x00]), 4, 1)?;
-    refuses(&rt, ByteString(&[0x24, 0x21]), 5, 1)?;
-    refuses(&rt, ByteString(&[0x40, 0x01, 0, 0, 0, 0]), 5, 1)?;
-    // The mode is tested first, then the pairing, then the digit.
-    refuses(&rt, ByteString(&[0x24, 0x71]), 3, 1)?;
-    refuses(&rt, ByteString(&[0x24, 0x61]), 4, 1)?;
-    refuses(
-        &rt,
-        ByteString(&[0x10, 0x20, 0x00, 0x01, 0x00, 0x00, 0x30]),
-        4,
-        6,
-    )
+    let refusals: [(&[u8], u8, usize); 11] = [
+        (&[0x42, 0x60, 0x84], 1, 3),
+        (&[], 1, 0),
+        (&[0x10, 0x11], 1, 2),
+        (&[0x03], 2, 0),
+        (&[0x24, 0x70], 3, 1),
+        (&[0x11, 0x00], 4, 1),
+        (&[0x24, 0x21], 5, 1),
+        (&[0x40, 0x01, 0, 0, 0, 0], 5, 1),
+        // The mode is tested first, then the pairing, then the digit.
+        (&[0x24, 0x71], 3, 1),
+        (&[0x24, 0x61], 4, 1),
+        (&[0x10, 0x20, 0x00, 0x01, 0x00, 0x00, 0x30], 4, 6),
+    ];
+    for (bytes, number, place) in refusals {
+        refuses(&rt, ByteString(bytes), number, place)?;
+    }
+    Ok(())
 }
 
 #[test]
