@@ -51,9 +51,11 @@ module _
       pub instruction_made : IsOk r
       instruction_made = made_ok r made_is
 
+      parts_are : (i : Instruction) → r ≡ Ok i → parts i ≡ assembled o a b
+      parts_are i f = cc (ap made f, made_is)
+
       -- which is the one that is read
       pub instruction_read : (i : Instruction) → r ≡ Ok i → Ok (parts i, new.place.offset) ≡ decode (shows old.source.now) old.place.offset
       instruction_read i f =
-          let same : parts i ≡ assembled o a b = cc (ap made f, made_is) in
-          ap (λ (x : Parts). Ok (x, new.place.offset)) same
+          ap (λ (x : Parts). Ok (x, new.place.offset)) (parts_are i f)
           ∙ decode_then (shows old.source.now) old.place.offset o mid.place.offset a b new.place.offset h.reads behind
