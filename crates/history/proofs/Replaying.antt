@@ -67,45 +67,25 @@ refused_keeps x (call.Look l) s e = refl
 
 -- a journaled call moves to a view, and a clearing one leaves no past
 moves_on : (x : Execution) (c : Call) (s : State) → kind c ≡ Journaled → taken (answered x c s) ≡ true → (v : View) × (after x c s ≡ moved v s)
-moves_on x (call.Load a p) s k e = absurd cc
 moves_on x call.Step s k e = step_done (steps.outcome x s) s e
 moves_on x (call.SetWord a n) s k e = (word_set a n (present s), done (set_word_said a s) _ s e)
 moves_on x (call.SetPort q n) s k e = (port_set q n (present s), done (set_port_said q s) _ s e)
 moves_on x (call.Request i) s k e = (requested i (present s), done (request_said i s) _ s e)
-moves_on x call.Release s k e = absurd cc
-moves_on x call.Back s k e = absurd cc
-moves_on x (call.Look l) s k e = absurd cc
+moves_on x _ s k e = absurd cc
 
 clears : (x : Execution) (c : Call) (s : State) → kind c ≡ Clearing → taken (answered x c s) ≡ true → (after x c s).story.past ≡ []
 clears x (call.Load a p) s k e = ap (λ t. t.story.past) (load_done (admitted a p s) (installed a p s) s e)
-clears x call.Step s k e = cc
-clears x (call.SetWord a n) s k e = cc
-clears x (call.SetPort q n) s k e = cc
-clears x (call.Request i) s k e = cc
 clears x call.Release s k e = ap (λ t. t.story.past) (done (loaded s) _ s e)
-clears x call.Back s k e = cc
-clears x (call.Look l) s k e = cc
+clears x _ s k e = cc
 
 -- the only backward call, and what a looking one leaves
 is_back : (c : Call) → kind c ≡ Backward → c ≡ call.Back
-is_back (call.Load a p) k = cc
-is_back call.Step k = cc
-is_back (call.SetWord a n) k = cc
-is_back (call.SetPort q n) k = cc
-is_back (call.Request i) k = cc
-is_back call.Release k = cc
 is_back call.Back k = refl
-is_back (call.Look l) k = cc
+is_back _ k = cc
 
 looks : (x : Execution) (c : Call) (s : State) → kind c ≡ Looking → after x c s ≡ s
-looks x (call.Load a p) s k = cc
-looks x call.Step s k = cc
-looks x (call.SetWord a n) s k = cc
-looks x (call.SetPort q n) s k = cc
-looks x (call.Request i) s k = cc
-looks x call.Release s k = cc
-looks x call.Back s k = cc
 looks x (call.Look l) s k = refl
+looks x _ s k = cc
 
 -- a back leads to the state before
 undoes : (v : View) (s : State) → taken (said (back_said (moved v s))) ≡ true → back_made (moved v s) ≡ s

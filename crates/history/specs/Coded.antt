@@ -1,6 +1,7 @@
 -- The calls of the code, as the laws see them. Assumes nothing.
-use Rattle.std.specs.Prelude.{List, [], ◌∷◌, vec_items}
+use Rattle.std.specs.Prelude.{List, map, vec_items}
 use Rattle.std.specs.Borrow.{Bor}
+use Rattle.std.specs.List.{zip}
 use Rattle.history.specs.Calls.{Call}
 use Rattle.history.specs.Calls as call
 use Rattle.history.specs.Runs.{Answer}
@@ -19,11 +20,8 @@ call_of the.Back = call.Back
 call_of (the.Look l) = call.Look l
 
 abbrev pub calls_in : List (Bor code.Call) → List Call
-calls_in [] = []
-calls_in (c ∷ cs) = call_of c.now ∷ calls_in cs
+calls_in cs = map (λ (c : Bor code.Call). call_of c.now) cs
 
 -- calls and answers, pair by pair
 abbrev pub paired : List Call → List Answer → List Stood
-paired [] rs = []
-paired (c ∷ cs) [] = []
-paired (c ∷ cs) (r ∷ rs) = (c, r) ∷ paired cs rs
+paired cs rs = zip cs rs

@@ -8,6 +8,7 @@ use crate::call::{Call, Outcome, Refusal};
 use machine::saw_box::SawBox;
 
 // Does a call, and gives its answer.
+// A match: the laws are of calls as data, which can be compared and counted, as closures can't.
 pub fn perform<B: SawBox>(machine: &mut B, call: &Call) -> Result<Outcome, Refusal>
     ensures answers { result ≡ answered cisca (call_of call.now) (B.state machine.old) }
     ensures after { B.state machine.new ≡ after cisca (call_of call.now) (B.state machine.old) }

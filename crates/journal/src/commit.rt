@@ -41,8 +41,10 @@ pub fn commit<S: Store, P: Ports>(
     ports: &mut P,
     effect: Effect,
 ) -> Entry
-    ensures entry { result ≡ entry_of effect (view processor.old (S.Readable.cells store.old) (P.Ports.words ports.old)) }
-    ensures after { view processor.new (S.Readable.cells store.new) (P.Ports.words ports.new) ≡ applied effect (view processor.old (S.Readable.cells store.old) (P.Ports.words ports.old)) }
+    ensures entry { let before = view processor.old (S.Readable.cells store.old) (P.Ports.words ports.old) in result ≡ entry_of effect before }
+    ensures after { let before = view processor.old (S.Readable.cells store.old) (P.Ports.words ports.old) in
+        let after = view processor.new (S.Readable.cells store.new) (P.Ports.words ports.new) in
+        after ≡ applied effect before }
 {
     let before = *processor;
     let first = replace(store, effect.change.first);

@@ -27,7 +27,9 @@ pub fn undo<S: Store, P: Ports>(
     ports: &mut P,
     entry: Entry,
 )
-    ensures after { view processor.new (S.Readable.cells store.new) (P.Ports.words ports.new) ≡ undone entry (view processor.old (S.Readable.cells store.old) (P.Ports.words ports.old)) }
+    ensures after { let before = view processor.old (S.Readable.cells store.old) (P.Ports.words ports.old) in
+        let after = view processor.new (S.Readable.cells store.new) (P.Ports.words ports.new) in
+        after ≡ undone entry before }
     ensures restores { Undoes }
 {
     restore(store, entry.second);

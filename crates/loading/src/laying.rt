@@ -6,13 +6,14 @@ ghost use Rattle.program.specs.Programs.{program_bytes};
 ghost use Rattle.quantity.specs.Sums.{later};
 
 use cisca::instruction::Instruction;
-use codec::writer::{encoded_length, write};
+use codec::writer::encode;
 use memory::Store;
 use memory::fault::StoreFault;
 use quantity::Address;
 
 // Whether `count` bytes may be written from an address on, wrapping at 2^32; the first that may
 // not refuses. Nothing changes.
+// A try_fold over the range would carry the address as its value and use no item, and be no plainer.
 pub fn vacant<S: Store>(store: &S, at: Address, count: usize) -> Result<(), StoreFault>
     ensures { result ≡ vacancy (S.Readable.cells store.now) at count }
 {
@@ -40,11 +41,9 @@ fn lay_instruction<S: Store>(store: &mut S, at: Address, instruction: &Instructi
     ensures after { S.Readable.cells store.new ≡ laid (S.Readable.cells store.old) at (bytes instruction.now) }
     ensures behind { result ≡ later at (length (bytes instruction.now)) }
 {
-    let mut out = [0u8; 11];
-    let size = encoded_length(instruction);
-    let _ = write(instruction, &mut out);
-    lay(store, at, &out[0..size]);
-    at.later(size as u32)
+    let bytes = encode(instruction);
+    lay(store, at, &bytes);
+    at.later(bytes.len() as u32)
 }
 
 // Writes a program's bytes from an address on, wrapping at 2^32; a byte that is refused is left

@@ -50,10 +50,8 @@ fn a_step_is_tried_and_taken_back(rt: HostRuntime) -> Result<(), Fail> {
     let mut machine = fitted(rt.alloc())?;
     let r1 = Look::Register(Register::new(1));
     assert!(rt; machine.load(START, &[increment(1)?]).is_ok());
-    let Ok(Stepped::Executed(at, record)) = machine.step() else {
-        return Err(Fail::new("no step"));
-    };
-    assert!(rt; at == START && record == increment(1)?);
+    let stepped = Stepped::Executed(START, increment(1)?);
+    assert!(rt; machine.step() == Ok(stepped));
     assert!(rt; word_of(&machine, Look::Pc)? == 0x102);
     assert!(rt; word_of(&machine, r1)? == 1);
     assert!(rt; count_of(&machine)? == 1);
@@ -62,9 +60,7 @@ fn a_step_is_tried_and_taken_back(rt: HostRuntime) -> Result<(), Fail> {
     assert!(rt; word_of(&machine, Look::Pc)? == 0x100);
     assert!(rt; word_of(&machine, r1)? == 0);
     assert!(rt; count_of(&machine)? == 0);
-    let Err(fault) = machine.back() else {
-        return Err(Fail::new("taken back twice"));
-    };
+    let fault = machine.back().err().ok_or("taken back twice")?;
     assert!(rt; fault.number() == 29);
     Ok(())
 }
@@ -72,17 +68,11 @@ fn a_step_is_tried_and_taken_back(rt: HostRuntime) -> Result<(), Fail> {
 #[test]
 fn without_a_program_calls_give_20(rt: HostRuntime) -> Result<(), Fail> {
     let mut machine = fitted(rt.alloc())?;
-    let Err(stopped) = machine.step() else {
-        return Err(Fail::new("stepped"));
-    };
+    let stopped = machine.step().err().ok_or("stepped")?;
     assert!(rt; stopped.number() == 20 && stopped.pc.0 == 0);
-    let Err(unset) = machine.set_word(START, Number(1)) else {
-        return Err(Fail::new("set"));
-    };
+    let unset = machine.set_word(START, Number(1)).err().ok_or("set")?;
     assert!(rt; unset.number() == 20);
-    let Err(kept) = machine.release() else {
-        return Err(Fail::new("released"));
-    };
+    let kept = machine.release().err().ok_or("released")?;
     assert!(rt; kept.number() == 20);
     assert!(rt; word_of(&machine, Look::Pc)? == 0);
     Ok(())
@@ -95,9 +85,7 @@ fn a_journal_is_full_at_256_entries(rt: HostRuntime) -> Result<(), Fail> {
     for n in 0..256u32 {
         assert!(rt; machine.set_port(Port(63), Number(n)).is_ok());
     }
-    let Err(full) = machine.set_port(Port(63), Number(256)) else {
-        return Err(Fail::new("set"));
-    };
+    let full = machine.set_port(Port(63), Number(256)).err().ok_or("set")?;
     assert!(rt; full.number() == 28);
     assert!(rt; count_of(&machine)? == 256);
     assert!(rt; word_of(&machine, Look::Port(Port(63)))? == 255);
@@ -111,30 +99,26 @@ fn a_journal_is_full_at_256_entries(rt: HostRuntime) -> Result<(), Fail> {
 #[test]
 fn loads_are_refused_in_their_order(rt: HostRuntime) -> Result<(), Fail> {
     let mut machine = fitted(rt.alloc())?;
-    let Err(empty) = machine.load(Address(0), &[]) else {
-        return Err(Fail::new("loaded nothing"));
-    };
+    let empty = machine.load(Address(0), &[]).err().ok_or("loaded nothing")?;
     assert!(rt; empty.number() == 22);
-    let Err(low) = machine.load(Address(0xFF), &[increment(1)?]) else {
-        return Err(Fail::new("loaded below 100h"));
-    };
+    let low = machine
+        .load(Address(0xFF), &[increment(1)?])
+        .err()
+        .ok_or("loaded below 100h")?;
     assert!(rt; low.number() == 24);
-    let Err(absent) = machine.load(Address(0x1FFF), &[increment(1)?]) else {
-        return Err(Fail::new("loaded beside the chip"));
-    };
+    let absent = machine
+        .load(Address(0x1FFF), &[increment(1)?])
+        .err()
+        .ok_or("loaded beside the chip")?;
     assert!(rt; absent.number() == 10);
-    let Some(at) = absent.address() else {
-        return Err(Fail::new("no address"));
-    };
-    assert!(rt; at.0 == 0x2000);
+    assert!(rt; absent.address() == Some(Address(0x2000)));
     assert!(rt; machine.load(START, &[increment(1)?]).is_ok());
-    let Err(again) = machine.load(START, &[]) else {
-        return Err(Fail::new("loaded twice"));
-    };
+    let again = machine.load(START, &[]).err().ok_or("loaded twice")?;
     assert!(rt; again.number() == 21);
-    let Err(sealed) = machine.set_word(START, Number(0)) else {
-        return Err(Fail::new("written over the program"));
-    };
+    let sealed = machine
+        .set_word(START, Number(0))
+        .err()
+        .ok_or("written over the program")?;
     assert!(rt; sealed.number() == 11);
     Ok(())
 }

@@ -1,6 +1,5 @@
 // Recording effects, and taking them back.
 ghost use Rattle.std.specs.Prelude.{◌≡◌, length, IfOk};
-ghost use Rattle.journal.specs.Entries.{Undoes};
 ghost use Rattle.journal.specs.Stories.{back_answer, back_story, begun, forgotten, record_answer, record_story, roomy, story_of, Story};
 ghost use Rattle.processor.specs.Views.{view};
 

@@ -1,4 +1,5 @@
 // Whether a call may be made, and the recording of one.
+// Private calls write state_of out, here and in load and step: a second trait for its short name alone would be no plainer.
 ghost use Rattle.std.specs.Prelude.{◌≡◌, Ok};
 ghost use Rattle.machine.specs.Machines.{state_of};
 ghost use Rattle.machine.specs.States.{loaded as loaded_said, moved, present, ready as ready_said};
