@@ -19,7 +19,8 @@ fn restore<S: Store>(store: &mut S, old: Option<OldWord>)
 }
 
 // Takes an entry back: the second word first, then the first, the port and the processor. The entry
-// of an effect, taken back right after the effect, leaves all as it was before.
+// of an effect, taken back right after the effect, leaves all as it was before. The three are borrowed
+// apart, as in commit.
 #[tactic(auto, using(crate::proofs::Undoing::undoes))]
 pub fn undo<S: Store, P: Ports>(
     processor: &mut Processor,

@@ -29,6 +29,7 @@ fn is_in_range(at: Address, length: usize) -> bool
     at.0 >= FIRST && u64::from(at.0) + length as u64 <= END
 }
 
+// An address and a program stay two parameters: load's callers have them apart, and nothing keeps the pair.
 impl<S: Store, P: Ports> Machine<S, P> {
     // The length of a program that may be loaded at an address, or the first refusal.
     pub(super) fn admit(&self, at: Address, program: &[Instruction]) -> Result<usize, CallFault>

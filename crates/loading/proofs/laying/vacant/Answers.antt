@@ -1,4 +1,3 @@
-use Rattle.std.proofs.Common.{sym, ◌∙◌}
 use Rattle.loading.proofs.Lays.{vacancy_next}
 use Rattle.loading.proofs.laying.vacant.Goals as goal
 
@@ -6,4 +5,4 @@ pub loop-k-preserved : goal.loop-k-preserved
 loop-k-preserved g c =
     let e = vacancy_next (g.S.Readable.cells c.args.store.now) c.loop-k.next c.args.count c.loop-k._k c.loop-k-test.true in
     let f = rw (← c.in_ok-writable.ensures) at e in
-    rw c.later-next.ensures (sym f ∙ c.loop-k.invariant)
+    cc
