@@ -5,7 +5,6 @@ ghost use Rattle.arithmetic.specs.Marks.{Keeps, division_marks};
 ghost use Rattle.arithmetic.specs.Results.{divided};
 
 use crate::status::Status;
-use crate::sums::signed_result;
 use quantity::Number;
 
 // What a division gives.
@@ -31,8 +30,8 @@ pub fn divide(a: Number, b: Number, status: Status) -> (Option<Division>, Status
         );
     }
     let (dividend, divisor) = (a.0.cast_signed(), b.0.cast_signed());
-    let whole = dividend.overflowing_div(divisor);
-    let (quotient, after) = signed_result(status, whole, false);
+    let (whole, overflow) = dividend.overflowing_div(divisor);
+    let (quotient, after) = status.with_result(whole.cast_unsigned(), false, overflow);
     let remainder = Number(dividend.wrapping_rem(divisor).cast_unsigned());
     let division = Division {
         quotient,

@@ -8,13 +8,13 @@ pub returns : goal.returns
 returns c =
     let above : 0 < c.args.b.0 = search rules in
     let narrow : c.args.b.0 < 2 ^ 32 = search rules in
-    let whole : c.signed_result.result.0.0 ≡ word (quotient_of c.args.a c.args.b) = search rules in
-    let rest : c.cast_unsigned.result ≡ word (remainder_of c.args.a c.args.b) = search rules in
-    let over : c.signed_result.result.1.overflow ≡ outside (quotient_of c.args.a c.args.b) = search (rules, overflows) in
+    let whole : c.with_result.result.0.0 ≡ word (quotient_of c.args.a c.args.b) = search rules in
+    let rest : c.cast_unsigned-2.result ≡ word (remainder_of c.args.a c.args.b) = search rules in
+    let over : c.with_result.result.1.overflow ≡ outside (quotient_of c.args.a c.args.b) = search (rules, overflows) in
     record {
       result = search rules;
       divides =
-          parts (signed c.args.a.0) c.args.b.0 c.signed_result.result.0.0 c.cast_unsigned.result c.signed_result.result.1.overflow
+          parts (signed c.args.a.0) c.args.b.0 c.with_result.result.0.0 c.cast_unsigned-2.result c.with_result.result.1.overflow
           above narrow whole rest over;
       marks = (tt, tt, tt, tt, search rules);
     }
