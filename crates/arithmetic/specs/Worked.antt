@@ -36,7 +36,3 @@ examples =
 abbrev pub Worked : Example → Type 0
 Worked (combining k a b r) = combined k (number a) (number b) clear ≡ r
 Worked (dividing a b r) = divided (number a) (number b) clear ≡ r
-
-abbrev pub All : (Example → Type 0) → List Example → Type 0
-All P [] = Unit {0}
-All P (x ∷ xs) = P x × All P xs

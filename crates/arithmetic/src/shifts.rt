@@ -9,7 +9,7 @@ use quantity::Number;
 fn left(word: u32, count: u32) -> u32
     ensures { result ≡ shifted_left word count }
 {
-    if count < 32 { word << count } else { 0 }
+    word.checked_shl(count).unwrap_or(0)
 }
 
 // V where bit 31 is not as before; C stays.

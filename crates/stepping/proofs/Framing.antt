@@ -13,10 +13,10 @@ use Rattle.arithmetic.specs.declared.status.Status.{Status}
 use Rattle.execution.specs.Commands.{noted, resulting, sharing}
 use Rattle.execution.specs.Contexts.{Context, at_destination, at_source, at_stack, at_vector, blamed, destination_word, effective, kept, place_word, source_word, turned, writable}
 use Rattle.execution.specs.Executions.{commanded}
-use Rattle.execution.specs.Interrupts.{interrupting}
+use Rattle.execution.specs.Interrupts.{interrupting, serving}
 use Rattle.execution.specs.Jumps.{holds}
 use Rattle.processor.specs.Registers.{lowered, stack_top, with_pc, with_status, with_word}
-use Rattle.execution.specs.Stack.{gone, popped, pushed}
+use Rattle.execution.specs.Stack.{calling, gone, popped, popping, pushed, returning}
 use Rattle.processor.specs.Interrupts.{indexing}
 use Rattle.processor.specs.Processors.{held}
 use Rattle.processor.specs.declared.fault.Cause.TheVariants as cause
@@ -67,37 +67,40 @@ straight command.Return = false
 straight (command.Interrupt n) = false
 straight command.Resume = false
 
--- f is a part of the processor that no status changes, nor a register outside the test
-module _ (X : Type 0) (f : Processor → X) (t : ℕ → Bool) (puts : (p : Processor) (i : ℕ) (n : Number) → t i ≡ false → f (with_word p i n) ≡ f p) (marks : (p : Processor) (s : Status) → f (with_status p s) ≡ f p) where
-  abbrev Same : Context → Context → Type 0
+-- f is a part of the processor that no register outside the test changes
+module _ (X : Type 0) (f : Processor → X) (t : ℕ → Bool) (puts : (p : Processor) (i : ℕ) (n : Number) → t i ≡ false → f (with_word p i n) ≡ f p) where
+  abbrev pub Same : Context → Context → Type 0
   Same s u = f u.processor ≡ f s.processor
 
-  kept_same : (d : Place) (n : Number) (s : Context) → names t d ≡ false → IfOk (kept d n s) (Same s)
+  pub kept_same : (d : Place) (n : Number) (s : Context) → names t d ≡ false → IfOk (kept d n s) (Same s)
   kept_same (place.Register r) n s e = puts s.processor r.index n e
   kept_same (place.Memory m) n s e = then_made (Same s) (at_destination (word_writing s.memory (effective s.processor m))) _ (λ _. refl)
 
-  resulting_same : (d : Place) (r : Number × Status) (s : Context) → names t d ≡ false → IfOk (resulting d r s) (Same s)
-  resulting_same d r s e =
-      IfOk-weaker (resulting d r s) (Same (noted r.1 s)) (Same s) (λ u h. h ∙ marks s.processor r.1) (kept_same d r.0 (noted r.1 s) e)
-
-  sharing_same : (d : Place) (q : Option Division) (st : Status) (s : Context) → names t d ≡ false → t 0 ≡ false → IfOk (sharing d (q, st) s) (Same s)
-  sharing_same d None st s e z = then_made (Same s) (writable d s) _ (λ _. marks s.processor st)
-  sharing_same d (Some q) st s e z =
-      on_made (Same s) (Same s) (resulting d (q.quotient, st) s) _ (resulting_same d (q.quotient, st) s e) (λ u h. puts u.processor 0 q.remainder z ∙ h)
-
-  pushed_same : (n : Number) (s : Context) → t 15 ≡ false → IfOk (pushed n s) (Same s)
+  pub pushed_same : (n : Number) (s : Context) → t 15 ≡ false → IfOk (pushed n s) (Same s)
   pushed_same n s e = then_made (Same s) (at_stack (word_writing s.memory (stack_top (lowered s.processor)))) _ (λ _. puts s.processor 15 _ e)
 
-  popped_same : (s : Context) → t 15 ≡ false → IfOk (popped s) (λ r. f r.1 ≡ f s.processor)
+  pub popped_same : (s : Context) → t 15 ≡ false → IfOk (popped s) (λ r. f r.1 ≡ f s.processor)
   popped_same s e = then_made (λ r. f r.1 ≡ f s.processor) (at_stack (word_reading s.memory (stack_top s.processor))) _ (λ _. puts s.processor 15 _ e)
 
+  pub pop_same : (d : Place) (s : Context) → t 15 ≡ false → names t d ≡ false → IfOk (popping d s) (Same s)
+  pop_same d s e h =
+      on_made (λ r. f r.1 ≡ f s.processor) (Same s) (popped s) _ (popped_same s e)
+      (λ r g. IfOk-weaker (kept d r.0 (turned r.1 s)) (Same (turned r.1 s)) (Same s) (λ u k. k ∙ g) (kept_same d r.0 (turned r.1 s) h))
+
   -- PC does not matter
-  abbrev Jumps : Type 0
+  abbrev pub Jumps : Type 0
   Jumps = (p : Processor) (a : Address) → f (with_pc p a) ≡ f p
 
-  branched_same : (b : Bool) (p : Processor) (a : Address) → Jumps → f (cond b (with_pc p a) p) ≡ f p
+  pub branched_same : (b : Bool) (p : Processor) (a : Address) → Jumps → f (cond b (with_pc p a) p) ≡ f p
   branched_same true p a j = j p a
   branched_same false p a j = refl
+
+  pub call_same : (a : Address) (s : Context) → Jumps → t 15 ≡ false → IfOk (calling a s) (Same s)
+  call_same a s j e =
+      on_made (Same s) (Same s) (pushed (number s.processor.pc.0) s) _ (pushed_same (number s.processor.pc.0) s e) (λ u h. j u.processor a ∙ h)
+
+  pub return_same : (s : Context) → Jumps → t 15 ≡ false → IfOk (returning s) (Same s)
+  return_same s j e = on_made (λ r. f r.1 ≡ f s.processor) (Same s) (popped s) _ (popped_same s e) (λ r h. j r.1 _ ∙ h)
 
   interrupting_same : (i : ℕ) (s : Context) → Jumps → t 15 ≡ false → IfOk (interrupting i s) (Same s)
   interrupting_same i s j e =
@@ -105,34 +108,47 @@ module _ (X : Type 0) (f : Processor → X) (t : ℕ → Bool) (puts : (p : Proc
       (λ u h. on_made (Same u) (Same s) (pushed (number u.processor.pc.0) u) _ (pushed_same (number u.processor.pc.0) u e)
       (λ w g. then_made (Same s) (at_vector (word_reading w.memory (address (4 * i)))) _ (λ n. j w.processor _ ∙ g ∙ h)))
 
+  pub serve_same : (n : Number) (s : Context) → Jumps → t 15 ≡ false → IfOk (serving n s) (Same s)
+  serve_same n s j e = then_made (Same s) (blamed cause.Index (indexing n.0)) _ (λ i. interrupting_same i.value s j e)
+
+-- the same of a part that no status changes either
+module _ (X : Type 0) (f : Processor → X) (t : ℕ → Bool) (puts : (p : Processor) (i : ℕ) (n : Number) → t i ≡ false → f (with_word p i n) ≡ f p) (marks : (p : Processor) (s : Status) → f (with_status p s) ≡ f p) where
+  abbrev Alike : Context → Context → Type 0
+  Alike = Same X f t puts
+
+  resulting_same : (d : Place) (r : Number × Status) (s : Context) → names t d ≡ false → IfOk (resulting d r s) (Alike s)
+  resulting_same d r s e =
+      IfOk-weaker (resulting d r s) (Alike (noted r.1 s)) (Alike s) (λ u h. h ∙ marks s.processor r.1) (kept_same X f t puts d r.0 (noted r.1 s) e)
+
+  sharing_same : (d : Place) (q : Option Division) (st : Status) (s : Context) → names t d ≡ false → t 0 ≡ false → IfOk (sharing d (q, st) s) (Alike s)
+  sharing_same d None st s e z = then_made (Alike s) (writable d s) _ (λ _. marks s.processor st)
+  sharing_same d (Some q) st s e z =
+      on_made (Alike s) (Alike s) (resulting d (q.quotient, st) s) _ (resulting_same d (q.quotient, st) s e) (λ u h. puts u.processor 0 q.remainder z ∙ h)
+
   -- where PC matters, the command is no jump, call or return
-  pub left : (k : Command) (s : Context) → (straight k ≡ false → Jumps) → changes t k ≡ false → IfOk (commanded k s) (Same s)
+  pub left : (k : Command) (s : Context) → (straight k ≡ false → Jumps X f t puts) → changes t k ≡ false → IfOk (commanded k s) (Alike s)
   left command.Pass s j e = refl
   left (command.Enable b) s j e = marks s.processor _
-  left (command.Move d b) s j e = then_made (Same s) (source_word b s) _ (λ n. kept_same d n s e)
-  left (command.Push d) s j e = then_made (Same s) (at_source (place_word d s)) _ (λ n. pushed_same n s e)
-  left (command.Pop d) s j e =
-      on_made (λ r. f r.1 ≡ f s.processor) (Same s) (popped s) _ (popped_same s (or_left (t 15) (names t d) e))
-      (λ r h. IfOk-weaker (kept d r.0 (turned r.1 s)) (Same (turned r.1 s)) (Same s) (λ u g. g ∙ h) (kept_same d r.0 (turned r.1 s) (or_right (t 15) (names t d) e)))
+  left (command.Move d b) s j e = then_made (Alike s) (source_word b s) _ (λ n. kept_same X f t puts d n s e)
+  left (command.Push d) s j e = then_made (Alike s) (at_source (place_word d s)) _ (λ n. pushed_same X f t puts n s e)
+  left (command.Pop d) s j e = pop_same X f t puts d s (or_left (t 15) (names t d) e) (or_right (t 15) (names t d) e)
   left (command.Combine k d b) s j e =
-      then_made (Same s) (source_word b s) _ (λ y. then_made (Same s) (destination_word d s) _ (λ x. resulting_same d _ s e))
+      then_made (Alike s) (source_word b s) _ (λ y. then_made (Alike s) (destination_word d s) _ (λ x. resulting_same d _ s e))
   left (command.Divide d b) s j e =
-      then_made (Same s) (source_word b s) _
-      (λ y. then_made (Same s) (destination_word d s) _
+      then_made (Alike s) (source_word b s) _
+      (λ y. then_made (Alike s) (destination_word d s) _
       (λ x. sharing_same d (divided x y s.processor.status).0 (divided x y s.processor.status).1 s (or_left (names t d) (t 0) e) (or_right (names t d) (t 0) e)))
-  left (command.Alter k d) s j e = then_made (Same s) (destination_word d s) _ (λ x. resulting_same d _ s e)
+  left (command.Alter k d) s j e = then_made (Alike s) (destination_word d s) _ (λ x. resulting_same d _ s e)
   left (command.Compare k d b) s j e =
-      then_made (Same s) (source_word b s) _ (λ y. then_made (Same s) (destination_word d s) _ (λ x. marks s.processor _))
+      then_made (Alike s) (source_word b s) _ (λ y. then_made (Alike s) (destination_word d s) _ (λ x. marks s.processor _))
   left (command.Jump a) s j e = j refl s.processor a
-  left (command.Branch k d) s j e = branched_same (holds k s.processor.status) s.processor (displaced s.processor.pc d) (j refl)
-  left (command.Call a) s j e =
-      on_made (Same s) (Same s) (pushed (number s.processor.pc.0) s) _ (pushed_same (number s.processor.pc.0) s e) (λ u h. j refl u.processor a ∙ h)
-  left command.Return s j e =
-      on_made (λ r. f r.1 ≡ f s.processor) (Same s) (popped s) _ (popped_same s e) (λ r h. j refl r.1 _ ∙ h)
-  left (command.Interrupt n) s j e = then_made (Same s) (blamed cause.Index (indexing n.0)) _ (λ i. interrupting_same i.value s (j refl) e)
+  left (command.Branch k d) s j e = branched_same X f t puts (holds k s.processor.status) s.processor (displaced s.processor.pc d) (j refl)
+  left (command.Call a) s j e = call_same X f t puts a s (j refl) e
+  left command.Return s j e = return_same X f t puts s (j refl) e
+  left (command.Interrupt n) s j e = serve_same X f t puts n s (j refl) e
   left command.Resume s j e =
-      on_made (λ r. f r.1 ≡ f s.processor) (Same s) (popped s) _ (popped_same s e)
-      (λ r h. on_made (λ q. f q.1 ≡ f (with_pc r.1 (address r.0.0))) (Same s) (popped (gone r.0 (turned r.1 s))) _ (popped_same (gone r.0 (turned r.1 s)) e)
+      on_made (λ r. f r.1 ≡ f s.processor) (Alike s) (popped s) _ (popped_same X f t puts s e)
+      (λ r h. on_made (λ q. f q.1 ≡ f (with_pc r.1 (address r.0.0))) (Alike s) (popped (gone r.0 (turned r.1 s))) _ (popped_same X f t puts (gone r.0 (turned r.1 s)) e)
       (λ q g. marks q.1 _ ∙ g ∙ j refl r.1 _ ∙ h))
 
 pub other_register : (i j : ℕ) (p : Processor) (n : Number) → eqb i j ≡ false → held (with_word p j n) i ≡ held p i
@@ -142,7 +158,7 @@ other_register i j p n e = let ne : i ≢ j = eqb-false i j e in rw get_or-set_o
 pub registers_stay : (k : Command) (s : Context) (i : ℕ) → changes (eqb i) k ≡ false → IfOk (commanded k s) (λ u. held u.processor i ≡ held s.processor i)
 registers_stay k s i e = left Number (λ p. held p i) (eqb i) (λ p j n h. other_register i j p n h) (λ p u. refl) k s (λ _ p a. refl) e
 
-none_named : (d : Place) → names (λ _. false) d ≡ false
+pub none_named : (d : Place) → names (λ _. false) d ≡ false
 none_named (place.Register r) = refl
 none_named (place.Memory m) = refl
 
