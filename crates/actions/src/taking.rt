@@ -58,7 +58,7 @@ fn plain_operand(operand: Operand) -> Option<Source>
     }
 }
 
-// Modes 0 to 5.
+// Modes 0 to 5. Like `place_operand` in shape alone: each falls back on a narrower one of its own.
 fn any_operand(operand: Operand) -> Option<Source>
     ensures { result ≡ any_source operand }
 {
@@ -113,6 +113,7 @@ impl Operands {
         self.first.zip(self.second)
     }
 
+    // A method for each kind of operand: each is one pattern, which a closure would only wrap.
     fn place(self) -> Option<Place>
         ensures { result ≡ with_one place_of self.first self.second }
     {
@@ -146,7 +147,7 @@ impl Operands {
         Some((destination, source_operand(destination, b)?))
     }
 
-    // A register, then a port.
+    // A register, then a port. It and the next stay two: swapping the operands of one would say less.
     fn inward(self) -> Option<(Register, MemoryOperand)>
         ensures { result ≡ inward_of self.first self.second }
     {

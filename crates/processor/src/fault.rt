@@ -101,6 +101,7 @@ pub struct StepFault {
     pub pc: Address,
 }
 
+// Four impls alike but for a name: each says which variant of `Cause` its part is.
 impl WordPart for SourcePart {
     ghost part = { part.Source };
 
