@@ -166,6 +166,7 @@ impl WordPart for VectorPart {
     }
 }
 
+// By hand, here and below: the From that a derive writes has no contract, and clauses name what `?` makes.
 impl<P> From<WordFault> for PartFault<P> {
     ghost from_gives = { λ x y. y ≡ by_part x };
 

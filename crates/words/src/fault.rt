@@ -27,6 +27,7 @@ impl WordFault {
     }
 }
 
+// By hand: the From that a derive writes has no contract, and clauses name what `?` makes.
 impl From<StoreFault> for WordFault {
     ghost from_gives = { λ x y. y ≡ by_byte x };
 

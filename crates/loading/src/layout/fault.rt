@@ -12,6 +12,7 @@ pub enum LayoutFault {
     TooLong,
 }
 
+// By hand: the From that a derive writes has no contract, and a clause names what `?` makes.
 impl From<WriteFault> for LayoutFault {
     ghost from_gives = { λ _ y. y ≡ fault.TooLong };
 
