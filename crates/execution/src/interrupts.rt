@@ -20,6 +20,7 @@ use quantity::{Address, Number};
 impl<S: Store> Planner<'_, S> {
     // Whether a word of the stack may be written once another is stored: a stored word changes no
     // mark.
+    #[tactic(auto, using(crate::proofs::Covering::stored_marked))]
     fn test_over(&self, write: Option<StoreWrite>, at: Address) -> Result<(), StackFault>
         ensures { result ≡ blamed by_stack (word_writing (stored write (S.Readable.cells self.now.store.now)) at) }
     {
