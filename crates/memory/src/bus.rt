@@ -6,8 +6,8 @@ use crate::fault::StoreFault;
 use crate::{Readable, Store};
 use quantity::Address;
 
-// Addresses below `at` belong to the first, the others to the second. Each call tests this itself:
-// the two may differ in type, and a choice made once would need an enum of both for each call.
+// Addresses below `at` belong to the first, the others to the second. The two may differ in type, so
+// each call has an arm for either: two closures passed to one function would be no plainer.
 #[derive(Drop)]
 pub struct Bus<L, H> {
     at: Address,
@@ -29,7 +29,7 @@ impl<L: Readable, H: Readable> Readable for Bus<L, H> {
     ghost cells = { λ s. joined_at s.at.0 (L.Readable.cells s.low) (H.Readable.cells s.high) };
 
     fn read(&self, at: Address) -> Result<u8, StoreFault> {
-        if at.0 < self.at.0 {
+        if at < self.at {
             self.low.read(at)
         } else {
             self.high.read(at)
@@ -39,7 +39,7 @@ impl<L: Readable, H: Readable> Readable for Bus<L, H> {
 
 impl<L: Store, H: Store> Store for Bus<L, H> {
     fn writable(&self, at: Address) -> Result<(), StoreFault> {
-        if at.0 < self.at.0 {
+        if at < self.at {
             self.low.writable(at)
         } else {
             self.high.writable(at)
@@ -47,7 +47,7 @@ impl<L: Store, H: Store> Store for Bus<L, H> {
     }
 
     fn write(&mut self, at: Address, byte: u8) -> Result<(), StoreFault> {
-        if at.0 < self.at.0 {
+        if at < self.at {
             self.low.write(at, byte)
         } else {
             self.high.write(at, byte)
