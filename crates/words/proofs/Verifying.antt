@@ -12,11 +12,7 @@ use Rattle.words.specs.declared.fault.WordFault.{WordFault}
 same_word : (m : ℕ → Cell) (a : Address) (n : Number) → n.0 < 2 ^ 32 → word_writing m a ≡ Ok tt → word_reading (word_put m a n.0) a ≡ Ok n
 same_word m a n h e = grind (arith, nat_tests, mod-pow-add n.0 8 8, mod-pow-add n.0 8 16, mod-pow-add n.0 8 24)
 
--- a writing that was taken puts the word
-pub put_where_taken : (m m' : ℕ → Cell) (a : Address) (n : ℕ) → Ok tt ≡ word_writing m a → m' ≡ word_written m a n → m' ≡ word_put m a n
-put_where_taken m m' a n e f = f ∙ cond-true (is_ok (word_writing m a)) _ _ (ap is_ok (sym e))
-
 pub verifies : (m m' : ℕ → Cell) (a : Address) (n : Number) (r : Result Number WordFault) → n.0 < 2 ^ 32 → Ok tt ≡ word_writing m a → m' ≡ word_written m a n.0 → r ≡ word_reading m' a → r ≡ word_verified m a n
-verifies m m' a n r h e f g =
-    g ∙ ap (λ (m : ℕ → Cell). word_reading m a) (put_where_taken m m' a n.0 e f) ∙ same_word m a n h (sym e)
-    ∙ ap (λ (t : Result (Unit {0}) WordFault). and_then t λ _. Ok n) e
+verifies m m' a n r h taken after read =
+    let put : m' ≡ word_put m a n.0 = after ∙ cond-true (is_ok (word_writing m a)) _ _ (ap is_ok (sym taken)) in
+    read ∙ rw put (same_word m a n h (sym taken)) ∙ ap (λ (t : Result (Unit {0}) WordFault). and_then t λ _. Ok n) taken
