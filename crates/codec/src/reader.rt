@@ -71,6 +71,7 @@ impl<S: Source> Reader<S> {
     }
 
     // The next instruction. A refusal names the first byte at fault, and does not move the place.
+    // No `Iterator`, since a refusal is answered again at each call: what it hands out has no end.
     pub fn next(&mut self) -> Result<Instruction, ReadFault>
         ensures answers { read result ≡ answer (S.Source.shows self.old.source) self.old.place.offset }
         ensures moves { self.new.place.offset ≡ place_after (S.Source.shows self.old.source) self.old.place.offset }
