@@ -35,7 +35,7 @@ impl ProgramFault {
     }
 }
 
-// By hand and not derived: a clause names what `?` makes of the refusal.
+// By hand: the From that a derive writes has no contract, and a clause names what `?` makes.
 impl From<ReadFault> for ProgramFault {
     ghost from_gives = { λ x y. y ≡ Read x };
 
