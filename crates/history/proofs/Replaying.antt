@@ -1,15 +1,14 @@
 -- The standing calls, run again, by induction on the calls. Assumes nothing.
-use Rattle.std.proofs.Common.{◌≡◌, ℕ, Bool, true, false, cond, List, [], ◌∷◌, ◌++◌, reverse, length, is_some, Ok, Err, Result, sym, refl, ap, ◌∙◌, subst, add-one, arith}
+use Rattle.std.proofs.Common.{◌≡◌, ℕ, Bool, true, false, List, [], ◌∷◌, ◌++◌, reverse, length, is_some, Ok, Err, Result, sym, refl, ap, ◌∙◌, subst, add-one, arith}
 use mathlib.Core.List.{reverse-cons}
+use Rattle.std.proofs.lemmas.Bool.{cond-false, cond-true}
 use Rattle.std.proofs.lemmas.List.{map-append}
 use Rattle.execution.specs.Contexts.{blamed}
 use Rattle.history.specs.Calls.{Backward, Call, Clearing, Journaled, Kind, Looking, kind}
 use Rattle.history.specs.Calls as call
-use Rattle.history.specs.Runs.{after, answered, answers, runs, said, stepped, taken, told}
+use Rattle.history.specs.Runs.{after, answered, answers, runs, said, stepped, taken}
 use Rattle.history.specs.Standing.{Stood, answers_of, calls_of, counted, counted_as, entries_due, joined, kept, last_kept, standing, struck}
-use Rattle.history.specs.declared.call.Outcome.{Outcome}
 use Rattle.history.specs.declared.call.Outcome.TheVariants as outcome
-use Rattle.history.specs.declared.call.Refusal.{Refusal}
 use Rattle.history.specs.declared.call.Refusal.TheVariants as refusal
 use Rattle.journal.specs.Stories.{back_answer}
 use Rattle.machine.specs.Calls.{back_made, back_said, port_set, request_said, requested, set_port_said, set_word_said, word_set}
@@ -23,20 +22,13 @@ use Rattle.processor.specs.Views.{View}
 use Rattle.words.specs.Words.{and_then}
 
 -- taken or not, a call by its answer
-
-upon_taken : {X F : Type 0} (f : X → Outcome) (g : F → Refusal) (r : Result X F) (t s : State) → taken (told f g r) ≡ true → upon r t s ≡ t
-upon_taken f g (Ok x) t s e = refl
-upon_taken f g (Err y) t s e = cc
-
-upon_refused : {X F : Type 0} (f : X → Outcome) (g : F → Refusal) (r : Result X F) (t s : State) → taken (told f g r) ≡ false → upon r t s ≡ s
-upon_refused f g (Ok x) t s e = cc
-upon_refused f g (Err y) t s e = refl
-
 done : (r : Said) (t s : State) → taken (said r) ≡ true → upon r t s ≡ t
-done r t s e = upon_taken _ _ r t s e
+done (Ok u) t s e = refl
+done (Err f) t s e = cc
 
 undone : (r : Said) (t s : State) → taken (said r) ≡ false → upon r t s ≡ s
-undone r t s e = upon_refused _ _ r t s e
+undone (Ok u) t s e = cc
+undone (Err f) t s e = refl
 
 load_done : (r : Result ℕ CallFault) (t s : State) → taken (said (and_then r λ _. Ok tt)) ≡ true → upon r t s ≡ t
 load_done (Ok n) t s e = refl
@@ -145,15 +137,14 @@ module _ (x : Execution) (s : State) (empty : s.story.past ≡ []) where
   unfolding Next
   joins r c g m e k = (
     (c, answered x c (built x s r)) ∷ r,
-    ap (λ t. cond t (joined (kind c) (c, answered x c (built x s r)) (reverse r)) (reverse r)) e ∙ k ∙ sym (reverse-cons _ r),
+    cond-true _ _ _ e ∙ k ∙ sym (reverse-cons _ r),
     refl,
     (m, refl, e, g),
   )
 
   stays : (r : List Stood) (c : Call) → Good x s r → taken (answered x c (built x s r)) ≡ false → Next x s r c
   unfolding Next
-  stays r c g e =
-      (r, ap (λ t. cond t (joined (kind c) (c, answered x c (built x s r)) (reverse r)) (reverse r)) e, refused_keeps x c (built x s r) e, g)
+  stays r c g e = (r, cond-false _ _ _ e, refused_keeps x c (built x s r) e, g)
 
   goes_back : (r : List Stood) → Good x s r → taken (answered x call.Back (built x s r)) ≡ true → Next x s r call.Back
   unfolding Next Undone
@@ -161,7 +152,7 @@ module _ (x : Execution) (s : State) (empty : s.story.past ≡ []) where
   goes_back (p ∷ r) g e =
       let u = back_one x p.0 (built x s r) (kind p.0) refl g.0 (ap taken g.1 ∙ g.2) e in (
         r,
-        ap (λ t. cond t (struck (reverse (p ∷ r))) (reverse (p ∷ r))) e ∙ ap struck (reverse-cons p r) ∙ struck_last p (reverse r) u.0,
+        cond-true _ _ _ e ∙ ap struck (reverse-cons p r) ∙ struck_last p (reverse r) u.0,
         u.1,
         g.3,
       )
@@ -175,7 +166,7 @@ module _ (x : Execution) (s : State) (empty : s.story.past ≡ []) where
       subst (Next x s r) (sym b) (goes_back r g (ap (λ c. taken (answered x c (built x s r))) (sym b) ∙ e))
   next_taken r c Looking k g e = (
     r,
-    ap (λ t. cond t (joined (kind c) (c, answered x c (built x s r)) (reverse r)) (reverse r)) e ∙ ap (λ k. joined k (c, answered x c (built x s r)) (reverse r)) k,
+    cond-true _ _ _ e ∙ ap (λ k. joined k (c, answered x c (built x s r)) (reverse r)) k,
     looks x c (built x s r) k,
     g,
   )
