@@ -23,7 +23,8 @@ impl Table {
     }
 }
 
-// Which of the words is a port's, or a refusal where the table has no such port.
+// Which of the words is a port's, or a refusal where the table has no such port. An index, for what an
+// array holds once a word that `get_mut` lent of it is written was not proved.
 fn index_of(port: Port) -> Result<usize, PortFault>
     ensures { result ≡ finding port }
 {
