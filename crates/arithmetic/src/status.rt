@@ -49,6 +49,7 @@ impl Status {
 impl From<Status> for Number {
     ghost from_gives = { Packs };
 
+    #[tactic(auto, using(crate::proofs::Restoring::restored))]
     fn from(status: Status) -> Number {
         Number(sum_of_weights(status))
     }

@@ -10,6 +10,7 @@ pub struct IndexFault;
 
 impl InterruptIndex {
     // The index of the low six bits.
+    #[tactic(auto, using(crate::proofs::Indexes::same_index), unfolding(crate::specs::Interrupts::index_of))]
     fn low(number: u32) -> InterruptIndex
         ensures { result ≡ index_of number }
     {
