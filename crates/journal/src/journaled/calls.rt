@@ -78,7 +78,7 @@ impl<M: Store, P: Ports> Journal for Journaled<M, P> {
         self.entries.len()
     }
 
-    #[tactic(auto, using(crate::proofs::Telling::length_past, crate::proofs::Telling::earlier_pushed))]
+    #[tactic(auto, using(crate::proofs::Telling::length_past))]
     fn record(&mut self, effect: Effect) -> Result<(), JournalFull> {
         if !self.has_room() {
             return Err(JournalFull);

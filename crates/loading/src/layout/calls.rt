@@ -43,7 +43,6 @@ impl Layout {
     }
 
     // The record that starts at an offset from the program's first byte.
-    #[tactic(auto, using(crate::proofs::Offsets::starting_at))]
     pub fn starting(&self, offset: usize) -> Option<Instruction>
         ensures { result ≡ starting (program_of self.now) offset }
     {

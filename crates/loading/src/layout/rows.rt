@@ -7,7 +7,8 @@ ghost use Rattle.program.specs.Programs.{program_bytes};
 use cisca::instruction::Instruction;
 use codec::writer::encoded_length;
 
-// A record at its first byte, and nothing at its other bytes.
+// A record at its first byte, and nothing at its other bytes. There is room for them, so that resize
+// takes no memory and cannot fail.
 fn push_record(rows: &mut Vec<Option<Instruction>>, instruction: &Instruction)
     requires { vec_len rows.old + length (bytes instruction.now) ≤ vec_capacity rows.old }
     ensures items { rows.new.items ≡ rows.old.items ++ room_of instruction.now }
