@@ -204,7 +204,7 @@ impl From<IndexFault> for Cause {
 
 impl Cause {
     // The fault of the word that was refused.
-    pub fn word(self) -> Option<WordFault>
+    fn word(self) -> Option<WordFault>
         ensures { result ≡ word_of self }
     {
         match self {
