@@ -153,7 +153,7 @@ impl<S: Source> Cursor<'_, S> {
         self.valued(marked)
     }
 
-    // As many operands as the group has.
+    // As many operands as the group has: two Options, as the call that makes a record takes them.
     fn operands(&mut self, group: Group) -> Result<(Option<Operand>, Option<Operand>), ReadFault>
         ensures { Reads S.Source.shows (operands_at group) self.old self.new result }
     {
