@@ -3,6 +3,7 @@ ghost use Rattle.std.specs.Prelude.{◌≡◌, ◌==◌, ◌<◌, length, map, o
 ghost use Rattle.std.specs.Fmt.{padded};
 ghost use Rattle.std.specs.List.{find};
 ghost use Rattle.cisca.specs.Table.{OperationOf, all_rows, code, code_in, filled, group, letters, name, operation_in, operations, row_in, row_of};
+ghost use Rattle.cisca.specs.declared.operation.Operation.{Operation};
 ghost use Rattle.cisca.specs.declared.operation.Operation.TheVariants.{Nop};
 
 use operands::group::Group;
@@ -295,8 +296,12 @@ impl Operation {
 
     // The operation's byte.
     // A method and not From: it is one of the row's three facts, and is read as the others are.
+    #[tactic(auto, using(crate::proofs::Codes::code_tells))]
     pub fn code(self) -> u8
-        ensures { result ≡ code self }
+        ensures byte { result ≡ code self }
+
+        // No other operation has it, so `==` of two operations says whether their bytes are the same.
+        ensures tells { (other : Operation) → code other ≡ result → other ≡ self }
     {
         self.row().code
     }

@@ -9,6 +9,7 @@ use crate::source::Source;
 use cisca::instruction::Instruction;
 
 // Puts a reader's place back when it is dropped, on every way out.
+// A rule of the project: a look ahead goes by a guard, so that no way out can forget the place.
 struct PlaceGuard<'a> {
     place: &'a mut Place,
     saved: Place,

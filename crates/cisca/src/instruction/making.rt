@@ -35,6 +35,7 @@ pub fn legal_pairing_count() -> usize
 }
 
 // Whether the operation takes these operands.
+// Two Options, by a rule of the project: the call that makes a record is told which are absent.
 fn is_legal(operation: Operation, first: Option<Operand>, second: Option<Operand>) -> bool
     ensures { result ≡ pairing operation first second }
 {
