@@ -16,7 +16,6 @@ impl AddressRange {
     pub fn contains(self, at: Address) -> bool
         ensures { result ≡ covered self.base.0 self.length at.0 }
     {
-        at.0.checked_sub(self.base.0)
-            .is_some_and(|offset| u64::from(offset) < self.length)
+        at.0 >= self.base.0 && u64::from(at.0 - self.base.0) < self.length
     }
 }
