@@ -278,6 +278,14 @@ fn table() -> &'static [Row; 34]
     &OPERATIONS
 }
 
+// The row of the operation at a place.
+fn row_at(place: usize) -> &'static Row
+    requires { place < length operations }
+    ensures { row_in result.now ≡ row_of (slice_index_or operations place Nop) }
+{
+    &table()[place]
+}
+
 impl Operation {
     // Where the operation stands among all.
     fn place(self) -> usize
@@ -291,7 +299,7 @@ impl Operation {
     fn row(self) -> &'static Row
         ensures { row_in result.now ≡ row_of self }
     {
-        &table()[self.place()]
+        row_at(self.place())
     }
 
     // The operation's byte.
