@@ -1,6 +1,6 @@
 -- An operation is told by its byte. Assumes nothing.
 use Rattle.std.proofs.Common.{◌≡◌, ℕ, ◌-◌, ◌^◌, ◌<◌, Bool, true, List, [], ◌∷◌, Some, sym, ap, ◌∙◌, arith, rules}
-use Rattle.std.proofs.lemmas.Bool.{eqb-true}
+use Rattle.std.proofs.lemmas.Bool.{eq-eqb, eqb-true}
 use Rattle.std.specs.Prelude.{◌==◌, Decides}
 use Rattle.std.specs.Fmt.{char_count, format_spec, padded, take_chars}
 use Rattle.std.specs.List.{find}
@@ -17,9 +17,13 @@ code_tells x y e =
     let both : Some x ≡ Some y = sym (code_finds x) ∙ ap operation_of e ∙ code_finds y in
     cc
 
--- so `==`, also through a bound, compares the bytes, and decides whether two operations are the same
-pub same_operation : (x y : Operation) → Decides (same.ghosts.eq x y) (x ≡ y)
-same_operation x y = search rules
+-- so the bytes decide whether two operations are the same
+pub same_operation : (x y : Operation) → Decides (code x == code y) (x ≡ y)
+same_operation x y = (λ t. code_tells x y (eqb-true (code x) (code y) t), λ e. eq-eqb (code x) (code y) (ap code e))
+
+-- and `==`, also through a bound, decides it too, and compares the bytes
+pub same_by_derive : (x y : Operation) → Decides (same.ghosts.eq x y) (x ≡ y)
+same_by_derive x y = search rules
 
 pub same_code : (x y : Operation) → same.ghosts.eq x y ≡ (code x == code y)
 same_code x y = search rules

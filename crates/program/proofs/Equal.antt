@@ -3,7 +3,7 @@ use Rattle.std.proofs.Common.{◌≡◌, Some, None, Option, Decides, ap, rules,
 use Rattle.std.specs.Prelude.{◌==◌}
 use Rattle.std.specs.Option.{option_eq}
 use Rattle.std.proofs.lemmas.Bool.Decides.{Decides-and, Decides-eqb, Decides-like}
-use Rattle.cisca.proofs.Codes.{same_operation}
+use Rattle.cisca.proofs.Codes.{same_by_derive}
 use Rattle.cisca.proofs.Same.{same_instruction}
 use Rattle.cisca.specs.declared.instruction.Instruction.{Instruction}
 use Rattle.cisca.specs.contracts.instruction.InstructionPartialEq.TheImpl as instruction
@@ -34,4 +34,4 @@ pub same_record : (x y : Instruction) → Decides (instruction.ghosts.eq x y) (x
 same_record x y =
     Decides-like _ (λ e. same_instruction x y (λ i. assembled (e.0 i) (e.1.0 i) (e.1.1 i)))
     (λ e. (ap (λ (i : Instruction). i.operation) e, (ap (λ (i : Instruction). i.first) e, ap (λ (i : Instruction). i.second) e)))
-    (Decides-and _ _ (same_operation x.operation y.operation) (Decides-and _ _ (same_if x.first y.first) (same_if x.second y.second)))
+    (Decides-and _ _ (same_by_derive x.operation y.operation) (Decides-and _ _ (same_if x.first y.first) (same_if x.second y.second)))
