@@ -1,6 +1,8 @@
 -- Programs that begin one another. Assumes nothing.
-use Rattle.std.proofs.Common.{◌≡◌, ℕ, ◌+◌, Bool, List, [], ◌∷◌, ◌++◌, length, drop, Decides, sym, refl, ap, ◌∙◌, append_assoc, arith}
+use Rattle.std.proofs.Common.{◌≡◌, ℕ, ◌+◌, ◌<◌, Bool, false, List, [], ◌∷◌, ◌++◌, length, drop, Decides, sym, refl, ap, ◌∙◌, append_assoc, arith}
+use Rattle.std.proofs.lemmas.Bool.{false≢true}
 use Rattle.std.proofs.lemmas.List.{append_cancel_left}
+use Rattle.std.proofs.lemmas.List.Prefix.{front_fits}
 use Rattle.std.specs.List.{starts_with}
 use Rattle.std.proofs.lemmas.Slice.Eq.{starts_is}
 use Rattle.cisca.proofs.Same.{same_instruction}
@@ -45,3 +47,7 @@ one_reading xs ys = (λ h. (program_bytes h.0, sym (bytes_append xs h.0) ∙ ap 
 -- the test for a front decides
 pub begins_decides : (xs ys : List Instruction) (r : Bool) → r ≡ starts_with equal.ghosts.eq ys xs → Decides r (Begins xs ys)
 begins_decides xs ys r e = let h = starts_is same_record ys xs r e in ((λ t. (drop (length xs) ys, sym (h.0 t))), λ b. h.1 b.0 (sym b.1))
+
+-- a longer list does not begin a shorter one
+pub longer : (xs ys : List Instruction) → length ys < length xs → Decides false (Begins xs ys)
+longer xs ys h = (λ e. absurd (false≢true e), λ b. absurd (omega (arith, front_fits ys xs b.0 (sym b.1))))
