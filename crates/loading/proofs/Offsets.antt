@@ -1,17 +1,23 @@
 -- The layout of a program, and the record at each offset. Assumes nothing.
-use Rattle.std.proofs.Common.{◌≡◌, ℕ, zero, suc, ◌-◌, ◌<◌, ◌≤◌, Bool, true, false, cond, eqb, ltb, List, [], ◌∷◌, ◌++◌, length, get_or, replicate, Some, None, Option, sym, refl, ap, ◌∙◌, inl, inr, arith, length-append}
+use Rattle.std.proofs.Common.{◌≡◌, ℕ, zero, suc, ◌+◌, ◌-◌, ◌<◌, ◌≤◌, Bool, true, false, cond, eqb, ltb, List, [], ◌∷◌, ◌++◌, length, get_or, replicate, Some, None, Option, sym, refl, ap, ◌∙◌, inl, inr, arith, length-append}
 use Rattle.std.proofs.lemmas.Bool.{cases_Bool, ltb-false, ltb-true}
 use Rattle.std.proofs.lemmas.Bool.Decides.{nat_tests}
 use Rattle.std.proofs.lemmas.List.{get_or_append_left, get_or-append_right, get_or_past, get_or-replicate, length-replicate}
 use Rattle.cisca.specs.declared.instruction.Instruction.{Instruction}
 use Rattle.codec.specs.Encoding.{bytes}
+use Rattle.program.specs.Programs.{program_bytes}
 use Rattle.loading.specs.Layouts.{laid_out, listed_records, none_listed, room_of, starting}
 
-abbrev Rows : Type 0
+abbrev pub Rows : Type 0
 Rows = List (Option Instruction)
 
-room_length : (i : Instruction) → length (room_of i) ≡ length (bytes i)
+pub room_length : (i : Instruction) → length (room_of i) ≡ length (bytes i)
 room_length i = let e = length-replicate {A = Option Instruction} (length (bytes i) - 1) None in omega arith
+
+-- a layout is as long as the program's bytes
+pub length_laid : (is : List Instruction) → length (laid_out is) ≡ length (program_bytes is)
+length_laid [] = refl
+length_laid (i ∷ is) = length-append (room_of i) (laid_out is) ∙ (λ j. room_length i j + length_laid is j) ∙ sym (length-append (bytes i) (program_bytes is))
 
 blanks : (k : ℕ) (os : Rows) → listed_records (replicate k None ++ os) ≡ listed_records os
 blanks zero os = refl

@@ -52,7 +52,7 @@ block_more : (x : ℕ) (xs : List ℕ) (m : ℕ → Cell) (a q : ℕ) → block 
 block_more x xs m a q = more_at (eqb q a) x xs m a q refl
 
 -- bytes laid one by one are a block
-laid_block : (xs : List ℕ) (m : ℕ → Cell) (a : Address) (q : ℕ) → a.0 + length xs ≤ 2 ^ 32 → laid m a xs q ≡ block m a.0 xs q
+pub laid_block : (xs : List ℕ) (m : ℕ → Cell) (a : Address) (q : ℕ) → a.0 + length xs ≤ 2 ^ 32 → laid m a xs q ≡ block m a.0 xs q
 laid_block [] m a q h = let none : covered a.0 0 q ≡ false = grind (arith, nat_tests) in sym (cond-false _ _ _ none)
 laid_block (x ∷ []) m a q h =
     let none : covered (a.0 + 1) 0 q ≡ false = grind (arith, nat_tests) in
@@ -66,6 +66,10 @@ laid_block (x ∷ (y ∷ ys)) m a q h =
 -- no other address is changed
 pub laid_elsewhere : (xs : List ℕ) (m n : ℕ → Cell) (a : Address) → n ≡ laid m a xs → OthersStay m n a xs
 laid_elsewhere xs m n a e l q o = ap (λ (f : ℕ → Cell). f q) e ∙ laid_block xs m a q l ∙ cond-false _ _ _ o
+
+-- not even once the bytes are sealed
+pub sealed_elsewhere : (xs : List ℕ) (m : ℕ → Cell) (a : Address) → a.0 + length xs ≤ 2 ^ 32 → (q : ℕ) → covered a.0 (length xs) q ≡ false → sealed a.0 (length xs) (laid m a xs) q ≡ m q
+sealed_elsewhere xs m a l q e = cond-false _ _ _ e ∙ laid_elsewhere xs m (laid m a xs) a refl l q e
 
 first_free : (x : Cell) (a : Address) (r : Result (Unit {0}) StoreFault) (b : ℕ) → and_then (writing x a) (λ _. r) ≡ Ok tt → (stored x b ≡ free b) × (r ≡ Ok tt)
 first_free nothing a r b e = cc
@@ -86,7 +90,7 @@ inside : (a n k : ℕ) → k < n → covered a n (a + k) ≡ true
 inside a n k h = grind (arith, nat_tests)
 
 -- bytes laid where they may be are then there
-laid_shows : (xs : List ℕ) (m : ℕ → Cell) (a : Address) → HasRoom m a (length xs) → (k : ℕ) → k < length xs → laid m a xs (a.0 + k) ≡ free (get_or xs k 0)
+pub laid_shows : (xs : List ℕ) (m : ℕ → Cell) (a : Address) → HasRoom m a (length xs) → (k : ℕ) → k < length xs → laid m a xs (a.0 + k) ≡ free (get_or xs k 0)
 laid_shows xs m a r k h =
     laid_block xs m a (a.0 + k) r.1
     ∙ cond-true _ _ _ (inside a.0 (length xs) k h)
@@ -127,7 +131,7 @@ module _ (xs : List ℕ) (m : ℕ → Cell) (a : Address) (l : a.0 + length xs �
   range_lies = lies_from (memory_span m a (length xs)) xs 0 span_at
 
 -- a range with the fixed bytes of a program reads as the program
-range_reads : (is : List Instruction) (m : ℕ → Cell) (a : Address) → a.0 + length (program_bytes is) ≤ 2 ^ 32 → Fixes m a (program_bytes is) → ReadsAs m a is
+pub range_reads : (is : List Instruction) (m : ℕ → Cell) (a : Address) → a.0 + length (program_bytes is) ≤ 2 ^ 32 → Fixes m a (program_bytes is) → ReadsAs m a is
 range_reads is m a l f =
     let n = length (program_bytes is) in
     program_reads_back (memory_span m a n) n (span_ends m a n) is

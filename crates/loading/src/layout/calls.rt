@@ -1,5 +1,5 @@
 // What is asked of a layout.
-ghost use Rattle.std.specs.Prelude.{◌≡◌, [], is_ok, IfOk};
+ghost use Rattle.std.specs.Prelude.{◌≡◌, [], is_ok, IfOk, None, slice_index_or};
 ghost use Rattle.loading.specs.Layouts.{fits, none_listed, relisted, starting, taking_up};
 ghost use Rattle.loading.specs.Listed.{program_of};
 
@@ -42,10 +42,22 @@ impl Layout {
         Ok(())
     }
 
+    // What stands at an offset: a record at its first byte, and nothing elsewhere. A function of its own with a test by
+    // hand: a wrong index is then refused by this clause, and not because a proof no longer fits.
+    fn row(&self, offset: usize) -> Option<Instruction>
+        ensures { result ≡ slice_index_or self.now.records.items offset None }
+    {
+        if offset < self.records.len() {
+            self.records[offset]
+        } else {
+            None
+        }
+    }
+
     // The record that starts at an offset from the program's first byte.
     pub fn starting(&self, offset: usize) -> Option<Instruction>
         ensures { result ≡ starting (program_of self.now) offset }
     {
-        self.records.get(offset).copied().flatten()
+        self.row(offset)
     }
 }
