@@ -1,11 +1,11 @@
 -- What the writing of one word makes of the words of a bank. Assumes nothing.
-use Rattle.std.proofs.Common.{◌≡◌, ℕ, ◌*◌, ◌^◌, ◌<◌, is_ok, Some, None, Ok, Err, Result, refl, ap, ◌∙◌, arith}
+use Rattle.std.proofs.Common.{◌≡◌, ℕ, ◌*◌, ◌^◌, ◌<◌, is_ok, Some, None, Ok, Err, Result, sym, refl, ap, ◌∙◌, arith}
 use mathlib.Core.Path.{fun_ext}
 use Rattle.std.proofs.lemmas.Nat.{mod-pow-add}
 use Rattle.std.proofs.lemmas.Bool.{cond-false, cond-true}
 use Rattle.std.proofs.lemmas.Bool.Decides.{nat_tests}
 use Rattle.memory.specs.Cells.{Cell}
-use Rattle.ports.specs.Banks.{free_word, mapped, placing, replaced}
+use Rattle.ports.specs.Banks.{free_word, mapped, placing, replaced, setting}
 use Rattle.quantity.specs.Sums.{later}
 use Rattle.quantity.specs.declared.Address.{Address}
 use Rattle.quantity.specs.declared.Port.{Port}
@@ -37,3 +37,20 @@ port_after m m' base a p n count fits placed after =
     let counted : p.0 < count = grind (arith, nat_tests) in
     let at : a ≡ later base (4 * p.0) = grind (arith, nat_tests) in
     ap (mapped count base) (after ∙ ap (λ x. word_written m x n) at) ∙ port_written m base p.0 n count fits low counted _ refl
+
+-- what a bank answers, and holds where it refuses, by the word of one of its ports
+module _ (m m' : ℕ → Cell) (base a : Address) (p n count : ℕ) (low : p < 256) (counted : p < count) (at : a ≡ later base (4 * p)) (after : m' ≡ word_written m a n) where
+  pub port_taken : (q : Port) → Ok tt ≡ word_writing m a → Ok tt ≡ setting (mapped count base m p) q
+  port_taken q ok =
+      let e : word_writing m (later base (4 * p)) ≡ Ok tt = ap (word_writing m) (sym at) ∙ sym ok in
+      grind (arith, nat_tests)
+
+  pub port_none : (f : WordFault) → Err f ≡ word_writing m a → mapped count base m p ≡ None
+  port_none f ok =
+      let e : word_writing m (later base (4 * p)) ≡ Err f = ap (word_writing m) (sym at) ∙ sym ok in
+      grind (arith, nat_tests)
+
+  pub port_stays : (f : WordFault) → Err f ≡ word_writing m a → mapped count base m' ≡ replaced (mapped count base m) p n
+  port_stays f ok =
+      let z = port_none f ok in
+      ap (mapped count base) (after ∙ cond-false (is_ok (word_writing m a)) _ _ (ap is_ok (sym ok))) ∙ fun_ext λ q. grind (arith, nat_tests)

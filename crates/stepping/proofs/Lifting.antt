@@ -101,10 +101,10 @@ pub goes : (i : Instruction) (v : View) → IfOk (executed i v) (λ w. ActionGoe
 goes i v = instruction_made Goes goes_there i v
 
 -- what holds of the outcome holds of the processor that is left
-taken_made : (P : Processor → Type 0) (r : Result Entry StepFault) (x : Result View StepFault) (v w : View) → taken r ≡ taken x → w ≡ settled x v → IfOk x (λ u. P u.processor) → OnOk r (P w.processor)
-taken_made P (Err f) x v w a b h = tt
-taken_made P (Ok e) (Ok u) v w a b h = subst (λ y. P y.processor) (sym b) h
-taken_made P (Ok e) (Err f) v w a b h = absurd (cc)
+pub settled_made : {X : Type 0} (P : Processor → Type 0) (r : Result X StepFault) (x : Result View StepFault) (v w : View) → taken r ≡ taken x → w ≡ settled x v → IfOk x (λ u. P u.processor) → IfOk r (λ _. P w.processor)
+settled_made P (Err f) x v w a b h = tt
+settled_made P (Ok e) (Ok u) v w a b h = subst (λ y. P y.processor) (sym b) h
+settled_made P (Ok e) (Err f) v w a b h = absurd (cc)
 
 pub stepped_made : (P : Processor → Type 0) {x : Result View StepFault} {r : Result Entry StepFault} {v w : View} → Steps x r v w → IfOk x (λ u. P u.processor) → OnOk r (P w.processor)
-stepped_made P {x} {r} {v} {w} s h = taken_made P r x v w s.answers s.after h
+stepped_made P {x} {r} {v} {w} s h = settled_made P r x v w s.answers s.after h
