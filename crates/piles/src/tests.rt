@@ -126,3 +126,13 @@ fn a_pile_of_four_keeps_what_it_is_given(rt: HostRuntime) -> Result<(), Fail> {
     assert_eq!(rt; fault.address(), Address(5));
     Ok(())
 }
+
+#[test]
+fn a_copy_of_a_chip_has_bytes_of_its_own(rt: HostRuntime) -> Result<(), Fail> {
+    let chip = zeros(rt.alloc(), 0x10, 3)?;
+    let mut copy = chip.clone()?;
+    copy.write(Address(0x11), 9)?;
+    assert_eq!(rt; copy.read(Address(0x11))?, 9);
+    assert_eq!(rt; chip.read(Address(0x11))?, 0);
+    Ok(())
+}
